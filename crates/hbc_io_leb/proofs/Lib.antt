@@ -1,0 +1,3 @@
+pub mod Lebs
+pub mod Slebs
+pub mod Numbers

@@ -1,0 +1,133 @@
+// LEB128 numbers, after io.rs: groups of seven bits, the least first, at most ten of them.
+ghost use mathlib.Core.Path.{_≡_};
+ghost use Prim.Native.Nat.{_*_, _^_, _≤_, _<_};
+ghost use Rattle.hbc_io.specs.Outcome.{valued, twos};
+ghost use Rattle.hbc_io_leb.specs.Leb.{lebBytes};
+ghost use Rattle.hbc_io_leb.specs.Groups.{groupsOf, ofGroups, signedBits};
+ghost use Rattle.hbc_io_leb.specs.Answers.{ulebOf, slebOf, ofUleb, ofSleb};
+use hbc_io::Cursor;
+use hbc_io::LIMIT;
+use hbc_io::Refusal;
+use hbc_io::refuse;
+
+// What an unsigned number's bytes say.
+pub struct Uleb {
+    pub value: u64,
+}
+
+// What a signed number's bytes say.
+pub struct Sleb {
+    pub value: i64,
+}
+
+pub enum ReadUleb {
+    Got(Uleb, Cursor),
+    Refused(Refusal, Cursor),
+}
+
+pub enum ReadSleb {
+    Got(Sleb, Cursor),
+    Refused(Refusal, Cursor),
+}
+
+// The low 64 bits of the groups, and how many there were.
+pub struct Groups {
+    pub bits: u64,
+    pub count: usize,
+}
+
+pub enum ReadGroups {
+    Got(Groups, Cursor),
+    Refused(Refusal, Cursor),
+}
+
+fn wide(b: u8) -> u64
+    ensures { λ r. ⌜ r ≡ b ⌝ }
+{
+    b as u64
+}
+
+fn read_groups(s: &[u8], c: Cursor) -> ReadGroups
+    ensures { λ r. ⌜ ofGroups r ≡ valued groupsOf (lebBytes (now (s .entry)) c) ⌝ }
+{
+    let at = c.at;
+    if LIMIT < s.len() {
+        return ReadGroups::Refused(refuse(1, 0), c);
+    }
+    if s.len() < at {
+        return ReadGroups::Refused(refuse(2, 0), c);
+    }
+    let mut v: u64 = 0;
+    let mut k: usize = 0;
+    while k < 10 {
+        if s.len() <= at + k {
+            return ReadGroups::Refused(refuse(3, 0), Cursor { at: s.len() });
+        }
+        let b = s[at + k];
+        v |= wide(b % 128) << (7 * k as u64);
+        if b < 128 {
+            return ReadGroups::Got(
+                Groups {
+                    bits: v,
+                    count: k + 1,
+                },
+                Cursor { at: at + k + 1 },
+            );
+        }
+        k += 1;
+    }
+    ReadGroups::Refused(refuse(5, 0), Cursor { at: at + 10 })
+}
+
+pub fn read_uleb128(s: &[u8], c: Cursor) -> ReadUleb
+    ensures { λ r. ⌜ ofUleb r ≡ valued ulebOf (lebBytes (now (s .entry)) c) ⌝ }
+{
+    match read_groups(s, c) {
+        ReadGroups::Got(g, next) => ReadUleb::Got(Uleb { value: g.bits }, next),
+        ReadGroups::Refused(r, left) => ReadUleb::Refused(r, left),
+    }
+}
+
+fn signed64(v: u64) -> i64
+    ensures { λ r. ⌜ r ≡ twos 64 v ⌝ }
+{
+    if v < 0x8000_0000_0000_0000 {
+        v as i64
+    } else {
+        -1 - ((0xFFFF_FFFF_FFFF_FFFF - v) as i64)
+    }
+}
+
+// The number that the groups stand for: ten fill the 64 bits, fewer carry their sign in their highest bit.
+fn extended(bits: u64, count: usize) -> i64
+    requires { ⌜ (1 ≤ count) × (bits < 2 ^ (7 * count)) ⌝ }
+    ensures { λ r. ⌜ r ≡ signedBits bits count ⌝ }
+{
+    if 10 <= count {
+        return signed64(bits);
+    }
+    let shift = 7 * count as u64;
+    let one: u64 = 1;
+    if bits < one << (shift - 1) {
+        return signed64(bits);
+    }
+    signed64(bits | (0xFFFF_FFFF_FFFF_FFFF << shift))
+}
+
+pub fn read_sleb128(s: &[u8], c: Cursor) -> ReadSleb
+    ensures { λ r. ⌜ ofSleb r ≡ valued slebOf (lebBytes (now (s .entry)) c) ⌝ }
+{
+    match read_groups(s, c) {
+        ReadGroups::Got(g, next) => {
+            let bits = g.bits;
+            let count = g.count;
+            ReadSleb::Got(
+                Sleb {
+                    value: extended(bits, count),
+                },
+                next,
+            )
+        }
+        ReadGroups::Refused(r, left) => ReadSleb::Refused(r, left),
+    }
+}
