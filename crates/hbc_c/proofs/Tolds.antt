@@ -1,0 +1,36 @@
+-- The two ways an outcome of the cursor layer is told, whatever its value.
+use mathlib.Core.Path.{_≡_, refl, ap, _∙_}
+use mathlib.Core.List.{List}
+use Prim.Native.Nat.{ℕ}
+use Rattle.hbc_io.specs.Outcome.{Outcome, got, refused, valued}
+use Rattle.hbc_io.proofs.Reading.{valued-on}
+use Rattle.hbc_io.specs.declared.Cursor.{Cursor}
+use Rattle.hbc_io.specs.declared.Refusal.{Refusal}
+use Rattle.hbc_io.specs.declared.Span.{Span}
+use Rattle.hbc_io_leb.specs.Leb.{lebBytes}
+use Rattle.hbc_c.specs.Code.{codeOf}
+use Rattle.hbc_c.specs.Io.{Moves, Told, ToldSpan}
+
+module _ {A : Type 0} where
+  pub moved-to : {o : Outcome A} {v : A} {n : Cursor} → o ≡ got v n → Moves o 0 (n .at)
+  moved-to e = rw e (record { says = refl; moves = refl })
+
+  pub moved-not : {o : Outcome A} {r : Refusal} {n : Cursor} {k : ℕ} → o ≡ refused r n → k ≡ codeOf r → Moves o k (n .at)
+  moved-not e f = rw e (record { says = f; moves = refl })
+
+  pub told-got : {o : Outcome A} {v before : A} {n : Cursor} → o ≡ got v n → Told o before 0 (n .at) v
+  told-got e = record { tells = moved-to e; leaves = rw e }
+
+  pub told-refused : {o : Outcome A} {before : A} {r : Refusal} {n : Cursor} {k : ℕ} → o ≡ refused r n → k ≡ codeOf r → Told o before k (n .at) before
+  told-refused e f = record { tells = moved-not e f; leaves = rw e }
+
+pub span-got : {o : Outcome Span} {p : Span} {start₀ len₀ : ℕ} {n : Cursor} → o ≡ got p n → ToldSpan o start₀ len₀ 0 (n .at) (p .start) (p .len)
+span-got e = record { tells = moved-to e; starts = rw e; counts = rw e }
+
+pub span-refused : {o : Outcome Span} {start₀ len₀ : ℕ} {r : Refusal} {n : Cursor} {k : ℕ} → o ≡ refused r n → k ≡ codeOf r → ToldSpan o start₀ len₀ k (n .at) start₀ len₀
+span-refused e f = record { tells = moved-not e f; starts = rw e; counts = rw e }
+
+-- the number alone of a LEB128 answer
+pub number-of : {B C : Type 0} (f : List ℕ → B) (g : B → C) (s : List ℕ) (c : Cursor) {x : Outcome B} → valued f (lebBytes s c) ≡ x
+    → valued (λ (bs : List ℕ). g (f bs)) (lebBytes s c) ≡ valued g x
+number-of f g s c e = valued-on f g (lebBytes s c) ∙ ap (valued g) e
