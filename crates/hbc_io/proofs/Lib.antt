@@ -1,3 +1,4 @@
 pub mod Reading
 pub mod Signs
 pub mod Plains
+pub mod Alone

@@ -1,3 +1,4 @@
 pub mod Lebs
 pub mod Slebs
 pub mod Numbers
+pub mod Alone

@@ -33,7 +33,7 @@ few : (n : ℕ) → n < 10 → 2 ^ (7 * n) ≤ 2 ^ 63
 few n h = pow-mono {i = 7 * n} {j = 63} (omega arith)
 
 -- fewer than ten groups: 64 bits lose nothing
-kept : (n v : ℕ) → 1 ≤ n → n < 10 → v < 2 ^ (7 * n) → low64 (twos (7 * n) v) ≡ twos (7 * n) v
+pub kept : (n v : ℕ) → 1 ≤ n → n < 10 → v < 2 ^ (7 * n) → low64 (twos (7 * n) v) ≡ twos (7 * n) v
 kept n v a b h =
     by-le (2 ^ (7 * n - 1)) v
     (λ l.

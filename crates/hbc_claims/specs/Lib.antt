@@ -1,0 +1,3 @@
+pub mod Cases
+pub mod Leb128
+pub mod Unique
