@@ -1,0 +1,104 @@
+/* The C calls of Bisquepond, a proved reader of Hermes bytecode tables. Link with libhbc_c.a (x86-64).
+ *
+ * Common to all calls
+ *
+ * - Bytes that are lent are a pointer and a count: `s`, `s_len`. They are only read. The pointer must stand for that
+ *   many bytes, and must not be NULL, not even where the count is 0.
+ * - A number that is lent (`size_t *at`, `uint32_t *value`, ..) must not be NULL, and must not overlap the bytes or
+ *   another lent number.
+ * - `at` is the cursor: the position in the bytes, from 0. It is read, and holds the cursor afterwards. It may hold
+ *   any number.
+ * - The answer is one number: 0 where the call is accepted, else the refusal's number times 2^32, plus its place.
+ *   HBC_NUMBER and HBC_PLACE take it apart. The place is 0 in all calls of this header.
+ * - A value is written only where the call is accepted; a refused call leaves the lent values as they were, and the
+ *   cursor too, unless it says otherwise below.
+ * - Every call ends, on every input, and never reads outside the bytes lent.
+ *
+ * Refusal numbers of these calls, in the order in which they are looked for
+ *
+ *   1  more than 2^30 bytes are lent
+ *   6  alignment 0
+ *   2  the cursor stands past the end; or a seek or align goes past the end
+ *   3  a read needs bytes past the end
+ *   5  the tenth byte of a LEB128 number has bit 7 set
+ *   9  a zero-ended string has no zero
+ */
+#ifndef HBC_H
+#define HBC_H
+
+#include <stddef.h>
+#include <stdint.h>
+
+/* The refusal's number in an answer, 0 if it was accepted; and its place. */
+#define HBC_NUMBER(code) ((uint32_t)((uint64_t)(code) >> 32))
+#define HBC_PLACE(code) ((uint32_t)(uint64_t)(code))
+
+#ifdef __cplusplus
+extern "C" {
+#endif
+
+/* ---- Bits ---- */
+
+/* The `width` bits of `word` from bit `first`, the least bit being bit 0. Bits past the word are 0, so any `first` and
+ * `width` will do. This is the field itself, not an answer with a refusal. */
+uint64_t hbc_bits(uint64_t word, uint32_t first, uint32_t width);
+
+/* ---- The cursor ---- */
+
+/* How many bytes stand from `at` to the end; 0 where it stands past the end. This is the count itself, not an answer
+ * with a refusal, and any count of bytes may be lent. */
+size_t hbc_remaining(const uint8_t *s, size_t s_len, size_t at);
+
+/* Moves the cursor to `to`, from wherever it stands, also from past the end.
+ * Refused 1; 2 if `to` is past the end (the end itself is not). */
+uint64_t hbc_seek(const uint8_t *s, size_t s_len, size_t *at, size_t to);
+
+/* Moves the cursor to the next multiple of `alignment`, not at all if it stands on one.
+ * Refused 1; 6 if `alignment` is 0; 2 if the cursor or that multiple is past the end. */
+uint64_t hbc_align(const uint8_t *s, size_t s_len, size_t *at, size_t alignment);
+
+/* ---- Numbers of fixed width ----
+ *
+ * Each reads the bytes at the cursor, the least first, and moves the cursor behind them. Signed numbers are in two's
+ * complement; a double is that of its eight bytes (IEEE 754, binary64), where a NaN comes out as a NaN of any bits.
+ * Refused 1; 2 if the cursor is past the end; 3 if fewer bytes are left than the number has. */
+uint64_t hbc_read_u8(const uint8_t *s, size_t s_len, size_t *at, uint8_t *value);
+uint64_t hbc_read_i8(const uint8_t *s, size_t s_len, size_t *at, int8_t *value);
+uint64_t hbc_read_u16(const uint8_t *s, size_t s_len, size_t *at, uint16_t *value);
+uint64_t hbc_read_u32(const uint8_t *s, size_t s_len, size_t *at, uint32_t *value);
+uint64_t hbc_read_u64(const uint8_t *s, size_t s_len, size_t *at, uint64_t *value);
+uint64_t hbc_read_i32(const uint8_t *s, size_t s_len, size_t *at, int32_t *value);
+uint64_t hbc_read_f64(const uint8_t *s, size_t s_len, size_t *at, double *value);
+
+/* ---- LEB128 numbers (DWARF 5, section 7.6) ----
+ *
+ * At most ten bytes are looked at. The value is the low 64 bits of the number: bits that the tenth byte has beyond them
+ * are lost, and a signed number of ten bytes takes no sign from its tenth byte but the one bit it keeps.
+ * Refused 1; 2 if the cursor is past the end; 3 if the bytes end before the number does; 5 if the tenth byte has bit 7
+ * set. Refused 3 or 5 the cursor stands after the last byte looked at. */
+uint64_t hbc_read_uleb128(const uint8_t *s, size_t s_len, size_t *at, uint64_t *value);
+uint64_t hbc_read_sleb128(const uint8_t *s, size_t s_len, size_t *at, int64_t *value);
+
+/* ---- Parts of the bytes ----
+ *
+ * Each answers a part of the bytes lent: `*start` is where it begins, `*span_len` how many bytes it has. Nothing is
+ * copied, and its text is not looked at. */
+
+/* The `len` bytes at the cursor, which moves behind them.
+ * Refused 1; 2 if the cursor is past the end; 3 if fewer than `len` bytes are left. */
+uint64_t hbc_read_bytes(const uint8_t *s, size_t s_len, size_t *at, size_t len, size_t *start, size_t *span_len);
+
+/* The bytes from the cursor to the next zero byte, without it; the cursor moves behind the zero.
+ * Refused 1; 2 if the cursor is past the end; 9 if there is no zero: the cursor then stands at the end. */
+uint64_t hbc_read_cstring(const uint8_t *s, size_t s_len, size_t *at, size_t *start, size_t *span_len);
+
+/* A length as hbc_read_uleb128 reads it, then that many bytes, which are the part; the cursor moves behind them.
+ * Refused as hbc_read_uleb128, with the cursor as it leaves it; or 3 if fewer bytes are left than the length says: the
+ * cursor then stands after the length. */
+uint64_t hbc_read_length_prefixed_string(const uint8_t *s, size_t s_len, size_t *at, size_t *start, size_t *span_len);
+
+#ifdef __cplusplus
+}
+#endif
+
+#endif

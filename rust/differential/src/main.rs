@@ -1,0 +1,37 @@
+//! Feeds the published Rust and libhbc_c.a the same inputs and compares all that they answer.
+//! docs/VECTORS.md says what is compared and how to run it.
+
+use std::process::ExitCode;
+
+#[cfg(all(published, archive))]
+mod io;
+#[cfg(all(published, archive))]
+mod run;
+
+#[cfg(all(published, archive))]
+fn main() -> ExitCode {
+    run::main(&[run::Layer {
+        name: "io",
+        compare: io::compare,
+        record: io::record::write,
+        replay: io::replay,
+    }])
+}
+
+#[cfg(all(published, not(archive)))]
+fn main() -> ExitCode {
+    eprintln!(
+        "comparison not run: no {} (make it with `rt staticlib hbc_c`, or name its folder in HBC_STATICLIB)",
+        hbc_sys::ARCHIVE
+    );
+    ExitCode::from(2)
+}
+
+#[cfg(not(published))]
+fn main() -> ExitCode {
+    println!(
+        "comparison skipped: the published Rust is not in {} (HERMES_DECOMP_SRC names its folder)",
+        published::FOLDER
+    );
+    ExitCode::SUCCESS
+}

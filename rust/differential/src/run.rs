@@ -1,0 +1,202 @@
+//! What every layer's comparison shares: the command line, the groups and their counts, the first difference.
+
+use std::fmt::Display;
+use std::process::ExitCode;
+use std::time::{Duration, Instant};
+
+use harness::{count, Random};
+
+const USAGE: &str = "usage: differential [--seconds N] [--seed S] [LAYER..]
+       differential [--seed S] --record FILE LAYER
+       differential --replay LAYER WORD..
+Compares every layer, or those named. Fixed inputs are always compared whole; random ones until N seconds have
+passed in all (default 20). --record writes a sample of the Rust's answers, as the LAYER_vectors program reads it.
+--replay compares one input, in the words that a difference prints.";
+
+pub struct Layer {
+    pub name: &'static str,
+    pub compare: fn(&mut Run) -> Result<(), Difference>,
+    /// The sample as bytes, and a line for each thing it covers.
+    pub record: fn(Random) -> (Vec<u8>, Vec<String>),
+    /// Both answers in words, or a difference.
+    pub replay: fn(&[String]) -> Result<String, Difference>,
+}
+
+/// The first input on which the two sides differ: its lines are printed, and the program ends.
+pub struct Difference(pub Vec<String>);
+
+pub struct Run {
+    layer: &'static str,
+    seed: u64,
+    until: Instant,
+    cases: u64,
+    total: u64,
+}
+
+impl Run {
+    /// Compares one group, which answers by `?` at the first difference, and prints its count.
+    pub fn group(
+        &mut self,
+        name: &str,
+        compare: impl FnOnce(&mut Run) -> Result<(), Difference>,
+    ) -> Result<(), Difference> {
+        self.cases = 0;
+        let begin = Instant::now();
+        if let Err(Difference(mut lines)) = compare(self) {
+            let place = format!(
+                "difference in {} {name}, seed {}, after {} equal cases",
+                self.layer,
+                self.seed,
+                count(self.cases)
+            );
+            lines.insert(0, place);
+            return Err(Difference(lines));
+        }
+        println!(
+            "{:<6} {name:<44} {:>14} cases  0 differences  {:>6.2} s",
+            self.layer,
+            count(self.cases),
+            begin.elapsed().as_secs_f64()
+        );
+        self.total += self.cases;
+        Ok(())
+    }
+
+    /// One more case was compared, and did not differ.
+    pub fn equal(&mut self) {
+        self.cases += 1;
+    }
+
+    /// Whether a random group should go on: a thousand cases at least, then until the time is up.
+    pub fn more(&self) -> bool {
+        !self.cases.is_multiple_of(1000) || self.cases == 0 || Instant::now() < self.until
+    }
+
+    /// The random numbers of a group: other groups neither shift nor share them.
+    pub fn random(&self, group: u64) -> Random {
+        let mut seeds = Random::new(self.seed);
+        Random::new(seeds.word() ^ group)
+    }
+}
+
+struct Asked {
+    seconds: f64,
+    seed: u64,
+    record: Option<String>,
+    replay: bool,
+    words: Vec<String>,
+}
+
+fn asked() -> Result<Asked, String> {
+    let mut asked = Asked {
+        seconds: 20.0,
+        seed: 1,
+        record: None,
+        replay: false,
+        words: Vec::new(),
+    };
+    let mut words = std::env::args().skip(1);
+    while let Some(word) = words.next() {
+        let mut next = || words.next().ok_or(format!("{word} needs a word after it"));
+        match word.as_str() {
+            "--seconds" => asked.seconds = number(&next()?)?,
+            "--seed" => asked.seed = number(&next()?)?,
+            "--record" => asked.record = Some(next()?),
+            "--replay" => asked.replay = true,
+            _ if word.starts_with("--") => return Err(format!("no option {word}")),
+            _ => asked.words.push(word),
+        }
+    }
+    Ok(asked)
+}
+
+pub fn number<T: std::str::FromStr>(word: &str) -> Result<T, String> {
+    word.parse().map_err(|_| format!("{word} is not a number"))
+}
+
+fn bad_usage(why: impl Display) -> ExitCode {
+    eprintln!("{why}\n{USAGE}");
+    ExitCode::from(2)
+}
+
+pub fn main(layers: &[Layer]) -> ExitCode {
+    let asked = match asked() {
+        Ok(asked) => asked,
+        Err(why) => return bad_usage(why),
+    };
+    let find = |word: &String| layers.iter().find(|layer| layer.name == word);
+    if asked.replay || asked.record.is_some() {
+        let Some(layer) = asked.words.first().and_then(find) else {
+            return bad_usage("no such layer");
+        };
+        return match asked.record {
+            Some(file) => record(layer, asked.seed, &file),
+            None => replay(layer, &asked.words[1..]),
+        };
+    }
+    if let Some(word) = asked.words.iter().find(|word| find(word).is_none()) {
+        return bad_usage(format!("no layer {word}"));
+    }
+    let chosen: Vec<&Layer> = match asked.words.as_slice() {
+        [] => layers.iter().collect(),
+        words => words.iter().filter_map(find).collect(),
+    };
+    compare(&chosen, asked.seconds, asked.seed)
+}
+
+fn compare(layers: &[&Layer], seconds: f64, seed: u64) -> ExitCode {
+    let begin = Instant::now();
+    let mut total = 0;
+    for (i, layer) in layers.iter().enumerate() {
+        let share = seconds.max(0.0) * (i + 1) as f64 / layers.len() as f64;
+        let mut run = Run {
+            layer: layer.name,
+            seed,
+            until: begin + Duration::from_secs_f64(share),
+            cases: 0,
+            total: 0,
+        };
+        if let Err(difference) = (layer.compare)(&mut run) {
+            return report(difference);
+        }
+        total += run.total;
+    }
+    println!(
+        "{} cases compared with the published Rust and document 01, 0 differences, seed {seed}, {:.1} s",
+        count(total),
+        begin.elapsed().as_secs_f64()
+    );
+    ExitCode::SUCCESS
+}
+
+fn report(Difference(lines): Difference) -> ExitCode {
+    println!("{}", lines.join("\n  "));
+    ExitCode::from(1)
+}
+
+fn record(layer: &Layer, seed: u64, file: &str) -> ExitCode {
+    let (bytes, lines) = (layer.record)(Random::new(seed));
+    for line in lines {
+        println!("{line}");
+    }
+    match std::fs::write(file, &bytes) {
+        Ok(()) => {
+            println!("{} bytes written to {file}", count(bytes.len() as u64));
+            ExitCode::SUCCESS
+        }
+        Err(why) => {
+            eprintln!("{file}: {why}");
+            ExitCode::from(2)
+        }
+    }
+}
+
+fn replay(layer: &Layer, words: &[String]) -> ExitCode {
+    match (layer.replay)(words) {
+        Ok(line) => {
+            println!("{line}");
+            ExitCode::SUCCESS
+        }
+        Err(difference) => report(difference),
+    }
+}

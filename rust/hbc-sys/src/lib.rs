@@ -1,0 +1,37 @@
+//! The C calls of libhbc_c.a. include/hbc.h says what each takes and answers.
+
+/// Where the archive was looked for.
+pub const ARCHIVE: &str = env!("ARCHIVE");
+
+/// The refusal number of an answer, 0 if accepted: `HBC_NUMBER`.
+pub const fn number(code: u64) -> u32 {
+    (code >> 32) as u32
+}
+
+/// The place of an answer: `HBC_PLACE`.
+pub const fn place(code: u64) -> u32 {
+    code as u32
+}
+
+#[rustfmt::skip]
+extern "C" {
+    pub fn hbc_bits(word: u64, first: u32, width: u32) -> u64;
+
+    pub fn hbc_remaining(s: *const u8, s_len: usize, at: usize) -> usize;
+    pub fn hbc_seek(s: *const u8, s_len: usize, at: *mut usize, to: usize) -> u64;
+    pub fn hbc_align(s: *const u8, s_len: usize, at: *mut usize, alignment: usize) -> u64;
+
+    pub fn hbc_read_u8(s: *const u8, s_len: usize, at: *mut usize, value: *mut u8) -> u64;
+    pub fn hbc_read_i8(s: *const u8, s_len: usize, at: *mut usize, value: *mut i8) -> u64;
+    pub fn hbc_read_u16(s: *const u8, s_len: usize, at: *mut usize, value: *mut u16) -> u64;
+    pub fn hbc_read_u32(s: *const u8, s_len: usize, at: *mut usize, value: *mut u32) -> u64;
+    pub fn hbc_read_u64(s: *const u8, s_len: usize, at: *mut usize, value: *mut u64) -> u64;
+    pub fn hbc_read_i32(s: *const u8, s_len: usize, at: *mut usize, value: *mut i32) -> u64;
+    pub fn hbc_read_f64(s: *const u8, s_len: usize, at: *mut usize, value: *mut f64) -> u64;
+    pub fn hbc_read_uleb128(s: *const u8, s_len: usize, at: *mut usize, value: *mut u64) -> u64;
+    pub fn hbc_read_sleb128(s: *const u8, s_len: usize, at: *mut usize, value: *mut i64) -> u64;
+
+    pub fn hbc_read_bytes(s: *const u8, s_len: usize, at: *mut usize, len: usize, start: *mut usize, span_len: *mut usize) -> u64;
+    pub fn hbc_read_cstring(s: *const u8, s_len: usize, at: *mut usize, start: *mut usize, span_len: *mut usize) -> u64;
+    pub fn hbc_read_length_prefixed_string(s: *const u8, s_len: usize, at: *mut usize, start: *mut usize, span_len: *mut usize) -> u64;
+}
