@@ -81,21 +81,21 @@ uint64_t hbc_read_sleb128(const uint8_t *s, size_t s_len, size_t *at, int64_t *v
 
 /* ---- Parts of the bytes ----
  *
- * Each answers a part of the bytes lent: `*start` is where it begins, `*span_len` how many bytes it has. Nothing is
+ * Each answers a part of the bytes lent: `*start` is where it begins, `*size` how many bytes it has. Nothing is
  * copied, and its text is not looked at. */
 
 /* The `len` bytes at the cursor, which moves behind them.
  * Refused 1; 2 if the cursor is past the end; 3 if fewer than `len` bytes are left. */
-uint64_t hbc_read_bytes(const uint8_t *s, size_t s_len, size_t *at, size_t len, size_t *start, size_t *span_len);
+uint64_t hbc_read_bytes(const uint8_t *s, size_t s_len, size_t *at, size_t len, size_t *start, size_t *size);
 
 /* The bytes from the cursor to the next zero byte, without it; the cursor moves behind the zero.
  * Refused 1; 2 if the cursor is past the end; 9 if there is no zero: the cursor then stands at the end. */
-uint64_t hbc_read_cstring(const uint8_t *s, size_t s_len, size_t *at, size_t *start, size_t *span_len);
+uint64_t hbc_read_cstring(const uint8_t *s, size_t s_len, size_t *at, size_t *start, size_t *size);
 
 /* A length as hbc_read_uleb128 reads it, then that many bytes, which are the part; the cursor moves behind them.
  * Refused as hbc_read_uleb128, with the cursor as it leaves it; or 3 if fewer bytes are left than the length says: the
  * cursor then stands after the length. */
-uint64_t hbc_read_length_prefixed_string(const uint8_t *s, size_t s_len, size_t *at, size_t *start, size_t *span_len);
+uint64_t hbc_read_length_prefixed_string(const uint8_t *s, size_t s_len, size_t *at, size_t *start, size_t *size);
 
 #ifdef __cplusplus
 }

@@ -1,1 +1,23 @@
-fn main() {}
+//! Times libhbc_c.a and the published Rust on the same bytes, in the same run. A benchmark, never a test.
+
+use std::process::ExitCode;
+
+#[cfg(all(published, archive))]
+mod io;
+#[cfg(all(published, archive))]
+mod table;
+
+#[cfg(all(published, archive))]
+fn main() -> ExitCode {
+    table::main(&[("io", io::rows)])
+}
+
+#[cfg(not(all(published, archive)))]
+fn main() -> ExitCode {
+    println!(
+        "benchmark skipped: it needs both {} and the published Rust in {}",
+        hbc_sys::ARCHIVE,
+        published::FOLDER
+    );
+    ExitCode::SUCCESS
+}

@@ -31,7 +31,7 @@ extern "C" {
     pub fn hbc_read_uleb128(s: *const u8, s_len: usize, at: *mut usize, value: *mut u64) -> u64;
     pub fn hbc_read_sleb128(s: *const u8, s_len: usize, at: *mut usize, value: *mut i64) -> u64;
 
-    pub fn hbc_read_bytes(s: *const u8, s_len: usize, at: *mut usize, len: usize, start: *mut usize, span_len: *mut usize) -> u64;
-    pub fn hbc_read_cstring(s: *const u8, s_len: usize, at: *mut usize, start: *mut usize, span_len: *mut usize) -> u64;
-    pub fn hbc_read_length_prefixed_string(s: *const u8, s_len: usize, at: *mut usize, start: *mut usize, span_len: *mut usize) -> u64;
+    pub fn hbc_read_bytes(s: *const u8, s_len: usize, at: *mut usize, len: usize, start: *mut usize, size: *mut usize) -> u64;
+    pub fn hbc_read_cstring(s: *const u8, s_len: usize, at: *mut usize, start: *mut usize, size: *mut usize) -> u64;
+    pub fn hbc_read_length_prefixed_string(s: *const u8, s_len: usize, at: *mut usize, start: *mut usize, size: *mut usize) -> u64;
 }

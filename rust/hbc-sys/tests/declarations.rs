@@ -116,13 +116,22 @@ fn exported() -> Calls {
     calls
 }
 
+/// Every call of `here` is among `there`, in the same shape.
+fn all_in(here: &Calls, there: &Calls) {
+    assert!(!here.is_empty());
+    for (name, shape) in here {
+        assert_eq!(there.get(name), Some(shape), "{name}");
+    }
+}
+
 #[test]
 fn header_and_declarations_agree() {
-    assert!(!declared().is_empty());
-    assert_eq!(in_the_header(), declared());
+    all_in(&in_the_header(), &declared());
+    all_in(&declared(), &in_the_header());
 }
 
 #[test]
 fn exports_and_declarations_agree() {
-    assert_eq!(exported(), declared());
+    all_in(&exported(), &declared());
+    all_in(&declared(), &exported());
 }

@@ -1,0 +1,123 @@
+//! What every layer's benchmark shares: the clock, the command line and the table.
+
+use std::hint::black_box;
+use std::process::ExitCode;
+
+use harness::count;
+
+const USAGE: &str = "usage: bench [--rounds N] [LAYER..]
+Times every layer, or those named; N rounds each (default 9), of which the best counts.";
+
+/// How many things a side read, and a sum over all their values.
+#[derive(Clone, Copy, PartialEq, Eq, Debug)]
+pub struct Tally {
+    pub reads: u64,
+    pub sum: u64,
+}
+
+/// Reads all of the bytes.
+pub type Side = fn(&[u8]) -> Tally;
+
+/// The three sides of one thing that is timed.
+#[derive(Clone, Copy)]
+pub struct Sides {
+    /// libhbc_c.a: a call across the C boundary for each read.
+    pub ours: Side,
+    /// The published Rust, behind a call for each read that is not inlined.
+    pub called: Side,
+    /// The published Rust, inlined into the loop as far as the compiler likes.
+    pub inlined: Side,
+}
+
+/// The processor time of this thread so far, in nanoseconds: what others run meanwhile is not counted.
+fn processor_time() -> i64 {
+    extern "C" {
+        fn clock_gettime(clock: i32, time: *mut [i64; 2]) -> i32;
+    }
+    const THREAD_CPUTIME: i32 = 3;
+    let mut time = [0; 2];
+    let failed = unsafe { clock_gettime(THREAD_CPUTIME, &mut time) };
+    assert_eq!(failed, 0, "no clock for the thread's processor time");
+    time[0] * 1_000_000_000 + time[1]
+}
+
+pub struct Bench {
+    rounds: u32,
+}
+
+impl Bench {
+    /// Times the sides in turn, the best of all rounds each, and prints a line of the table.
+    pub fn row(&self, name: &str, bytes: &[u8], sides: Sides) {
+        let sides = [sides.ours, sides.called, sides.inlined];
+        let tallies = sides.map(|side| side(bytes));
+        assert!(
+            tallies.iter().all(|tally| *tally == tallies[0]),
+            "{name}: the sides read different values: {tallies:?}"
+        );
+        let passes = (4 << 20) / bytes.len() + 1;
+        let mut best = [f64::INFINITY; 3];
+        for _ in 0..self.rounds {
+            for (side, best) in sides.iter().zip(&mut best) {
+                let begin = processor_time();
+                for _ in 0..passes {
+                    black_box(side(black_box(bytes)));
+                }
+                let nanoseconds = processor_time() - begin;
+                *best = best.min(nanoseconds as f64 / passes as f64);
+            }
+        }
+        let reads = tallies[0].reads;
+        let [ours, called, inlined] = best.map(|time| time / reads as f64);
+        println!(
+            "{name:<28} {:>4} MiB {:>12} {ours:>9.2} {called:>9.2} {inlined:>9.2} {:>9.2} {:>9.2}",
+            bytes.len() >> 20,
+            count(reads),
+            called / ours,
+            inlined / ours
+        );
+    }
+}
+
+/// The sizes of every table here.
+pub const SIZES: [usize; 2] = [1 << 20, 64 << 20];
+
+pub type Layer = (&'static str, fn(&Bench));
+
+pub fn main(layers: &[Layer]) -> ExitCode {
+    let mut bench = Bench { rounds: 9 };
+    let mut names = Vec::new();
+    let mut words = std::env::args().skip(1);
+    while let Some(word) = words.next() {
+        let known = layers.iter().any(|(name, _)| *name == word);
+        match word.as_str() {
+            "--rounds" => match words.next().and_then(|n| n.parse().ok()) {
+                Some(n) if n > 0 => bench.rounds = n,
+                _ => return bad_usage(),
+            },
+            _ if known => names.push(word),
+            _ => return bad_usage(),
+        }
+    }
+    println!("Nanoseconds for each read, best of {} rounds, and the Rust's time over ours: above 1, ours is faster.", bench.rounds);
+    println!("Ours is a call across the C boundary for each read. \"called\" is the Rust behind a call for each read;");
+    println!("\"inlined\" is the Rust inlined into the loop, with no call to pay for.");
+    println!(
+        "{:<28} {:>8} {:>12} {:>9} {:>9} {:>9} {:>9} {:>9}",
+        "", "bytes", "reads", "ours", "called", "inlined", "called", "inlined"
+    );
+    println!(
+        "{:<50} {:>9} {:>9} {:>9} {:>9} {:>9}",
+        "", "ns", "ns", "ns", "/ ours", "/ ours"
+    );
+    for (name, rows) in layers {
+        if names.is_empty() || names.iter().any(|chosen| chosen == name) {
+            rows(&bench);
+        }
+    }
+    ExitCode::SUCCESS
+}
+
+fn bad_usage() -> ExitCode {
+    eprintln!("{USAGE}");
+    ExitCode::from(2)
+}
