@@ -1,5 +1,7 @@
 //! The cursor layer: one read after the other until the bytes end.
 
+use std::hint::black_box;
+
 use harness::Random;
 use hbc_sys::*;
 use published::error::Result;
@@ -62,7 +64,8 @@ fn all(mut next: impl FnMut() -> Option<u64>) -> Tally {
     tally
 }
 
-/// The sides of a read of one number: our call, the Rust's, and the number's type.
+/// The sides of a read of one number: our call, the Rust's, and the number's type. The compiler reaches a function of
+/// another library by its address; `black_box` has it reach the Rust's in the same way.
 macro_rules! number {
     ($call:ident, $method:ident, $kind:ty) => {{
         const OURS: Side = |bytes| {
@@ -78,6 +81,7 @@ macro_rules! number {
         }
         const CALLED: Side = |bytes| {
             let mut reader = ByteReader::new(bytes);
+            let call: fn(&mut ByteReader<'_>) -> Result<$kind> = black_box(call);
             all(|| call(&mut reader).ok().map(|value| value as u64))
         };
         const INLINED: Side = |bytes| {
@@ -110,11 +114,8 @@ const CSTRING: Sides = Sides {
     },
     called: |bytes| {
         let mut reader = ByteReader::new(bytes);
-        all(|| {
-            call_cstring(&mut reader)
-                .ok()
-                .map(|text| read(text.as_bytes()))
-        })
+        let call: fn(&mut ByteReader<'_>) -> Result<String> = black_box(call_cstring);
+        all(|| call(&mut reader).ok().map(|text| read(text.as_bytes())))
     },
     inlined: |bytes| {
         let mut reader = ByteReader::new(bytes);

@@ -6,7 +6,7 @@ use std::process::ExitCode;
 use harness::count;
 
 const USAGE: &str = "usage: bench [--rounds N] [LAYER..]
-Times every layer, or those named; N rounds each (default 9), of which the best counts.";
+Times every layer, or those named; N rounds each (default 5), of which the best counts.";
 
 /// How many things a side read, and a sum over all their values.
 #[derive(Clone, Copy, PartialEq, Eq, Debug)]
@@ -84,7 +84,7 @@ pub const SIZES: [usize; 2] = [1 << 20, 64 << 20];
 pub type Layer = (&'static str, fn(&Bench));
 
 pub fn main(layers: &[Layer]) -> ExitCode {
-    let mut bench = Bench { rounds: 9 };
+    let mut bench = Bench { rounds: 5 };
     let mut names = Vec::new();
     let mut words = std::env::args().skip(1);
     while let Some(word) = words.next() {

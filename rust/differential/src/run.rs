@@ -7,11 +7,11 @@ use std::time::{Duration, Instant};
 use harness::{count, Random};
 
 const USAGE: &str = "usage: differential [--seconds N] [--seed S] [LAYER..]
-       differential [--seed S] --record FILE LAYER
+       differential [--seed S] --record FILE [LAYER]
        differential --replay LAYER WORD..
 Compares every layer, or those named. Fixed inputs are always compared whole; random ones until N seconds have
-passed in all (default 20). --record writes a sample of the Rust's answers, as the LAYER_vectors program reads it.
---replay compares one input, in the words that a difference prints.";
+passed in all (default 20). --record writes a sample of the Rust's answers, as the LAYER_vectors program reads it;
+the layer is io if none is named. --replay compares one input, in the words that a difference prints.";
 
 pub struct Layer {
     pub name: &'static str,
@@ -126,7 +126,11 @@ pub fn main(layers: &[Layer]) -> ExitCode {
     };
     let find = |word: &String| layers.iter().find(|layer| layer.name == word);
     if asked.replay || asked.record.is_some() {
-        let Some(layer) = asked.words.first().and_then(find) else {
+        let layer = match asked.words.first() {
+            None if !asked.replay => layers.first(),
+            word => word.and_then(find),
+        };
+        let Some(layer) = layer else {
             return bad_usage("no such layer");
         };
         return match asked.record {

@@ -174,7 +174,12 @@ fn leb128(sample: &mut Sample, random: &mut Random) {
 }
 
 fn any(sample: &mut Sample, random: &mut Random, op: Op) {
-    let flavour = random.below(5);
+    // Strings that end, and lengths that fit, are rare among bytes of any other flavour.
+    let flavour = match op {
+        Cstring => random.pick(&[0, 2, 3, 3]),
+        LengthPrefixedString => random.pick(&[1, 2, 2, 2]),
+        _ => random.below(5),
+    };
     let most = random.pick(&[64, 12, 12, 12, 12, 12, 12, 12]);
     let len = random.below(most + 1);
     let input: Vec<u8> = (0..len).map(|_| any_byte(random, flavour)).collect();
