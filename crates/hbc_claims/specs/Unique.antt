@@ -17,8 +17,12 @@ use Rattle.hbc_io.proofs.seek.Reads as of-seek
 use Rattle.hbc_io.proofs.align.Reads as of-align
 use Rattle.hbc_io.proofs.read_bytes.Reads as of-read-bytes
 use Rattle.hbc_io.proofs.part.Reads as of-part
+use Rattle.hbc_io.proofs.float_of.Reads as of-float-of
+use Rattle.hbc_io.proofs.signed32.Reads as of-signed32
+use Rattle.hbc_io.proofs.signed8.Reads as of-signed8
 use Rattle.hbc_io_leb.proofs.read_uleb128.Reads as of-read-uleb128
 use Rattle.hbc_io_leb.proofs.read_sleb128.Reads as of-read-sleb128
+use Rattle.hbc_io_leb.proofs.signed64.Reads as of-signed64
 use Rattle.hbc_io_text.proofs.read_cstring.Reads as of-read-cstring
 use Rattle.hbc_io_text.proofs.read_length_prefixed_string.Reads as of-read-length-prefixed-string
 use Rattle.hbc_io.proofs.Alone.{oneU8, oneU16, oneU32, oneU64, oneI8, oneI32, oneF64, oneSpan, oneMoved}
@@ -49,8 +53,12 @@ pub data Call : Type 0 where
   align : Call
   read_bytes : Call
   part : Call
+  float_of : Call
+  signed32 : Call
+  signed8 : Call
   read_uleb128 : Call
   read_sleb128 : Call
+  signed64 : Call
   read_cstring : Call
   read_length_prefixed_string : Call
 
@@ -75,6 +83,10 @@ Determined read_uleb128 = One of-read-uleb128.Learnt
 Determined read_sleb128 = One of-read-sleb128.Learnt
 Determined read_cstring = One of-read-cstring.Learnt
 Determined read_length_prefixed_string = One of-read-length-prefixed-string.Learnt
+Determined signed8 = One of-signed8.Learnt
+Determined signed32 = One of-signed32.Learnt
+Determined float_of = One of-float-of.Learnt
+Determined signed64 = One of-signed64.Learnt
 
 pub determined : (c : Call) → Determined c
 determined bits = λ k a r q s u. same
@@ -97,3 +109,7 @@ determined read_uleb128 = λ k a r q s u e f. oneUleb r q (same e f)
 determined read_sleb128 = λ k a r q s u e f. oneSleb r q (same e f)
 determined read_cstring = λ k a r q s u e f. oneSpan r q (same e f)
 determined read_length_prefixed_string = λ k a r q s u e f. oneSpan r q (same e f)
+determined signed8 = λ k a r q s u. same
+determined signed32 = λ k a r q s u. same
+determined float_of = λ k a r q s u. same
+determined signed64 = λ k a r q s u. same

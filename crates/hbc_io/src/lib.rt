@@ -171,7 +171,8 @@ pub fn read_u64(s: &[u8], c: Cursor) -> ReadU64
     number(s, c, 8)
 }
 
-fn signed8(v: u8) -> i8
+// The number that 8 bits stand for in two's complement.
+pub fn signed8(v: u8) -> i8
     ensures { λ r. ⌜ r ≡ twos 8 v ⌝ }
 {
     if v < 128 {
@@ -181,7 +182,7 @@ fn signed8(v: u8) -> i8
     }
 }
 
-fn signed32(v: u32) -> i32
+pub fn signed32(v: u32) -> i32
     ensures { λ r. ⌜ r ≡ twos 32 v ⌝ }
 {
     if v < 0x8000_0000 {
@@ -192,7 +193,7 @@ fn signed32(v: u32) -> i32
 }
 
 // A NaN is made anew: from_bits has no answer for its bits.
-fn float_of(v: u64) -> f64
+pub fn float_of(v: u64) -> f64
     ensures { λ r. ⌜ r ≡ ofBits binary64 v ⌝ }
 {
     if 0x7FF0_0000_0000_0000 < v % 0x8000_0000_0000_0000 {

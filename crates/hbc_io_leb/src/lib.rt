@@ -88,7 +88,8 @@ pub fn read_uleb128(s: &[u8], c: Cursor) -> ReadUleb
     }
 }
 
-fn signed64(v: u64) -> i64
+// The number that 64 bits stand for in two's complement.
+pub fn signed64(v: u64) -> i64
     ensures { λ r. ⌜ r ≡ twos 64 v ⌝ }
 {
     if v < 0x8000_0000_0000_0000 {
