@@ -13,7 +13,8 @@ use lib.Seq.{drop-cons, getD-drop, getD-take, length-take-le, take-length}
 use lib.Pow.{pow-add, pow-pos, pow-mono, mod-pow-add, shl-shr, high, low}
 use lib.Bits.{bitOr}
 use Rattle.hbc_io_leb.specs.Leb.{going, groups, lebBytes}
-use Rattle.hbc_io.specs.Outcome.{Outcome, got, refused, cursorAt, refusal, limit}
+use Rattle.hbc_io_leb.specs.Groups.{groupsOf}
+use Rattle.hbc_io.specs.Outcome.{Outcome, got, refused, valued, cursorAt, refusal, limit}
 use Rattle.hbc_io.specs.declared.Cursor.{Cursor}
 use Rattle.hbc_io.proofs.Reading.{past-test}
 use Rattle.hbc_bits.specs.Laws.{or-parts}
@@ -85,6 +86,16 @@ module _ (s : List ℕ) (c : Cursor) (short : length s ≤ limit) (inside : c .a
       → lebBytes s c ≡ got (take (suc k) (drop (c .at) s)) (cursorAt (c .at + suc k))
   unfolding lebBytes
   leb-whole k e h l = simp (e, le-ltb _ _ short, le-ltb _ _ inside, lt-leb _ _ h, lt-leb _ _ l)
+
+-- a number of one byte
+pub leb-one : (s : List ℕ) (c : Cursor) → length s ≤ limit → c .at < length s → (b : ℕ) → b < 128 → b ≡ getD s (c .at) 0
+    → valued groupsOf (lebBytes s c) ≡ got (record { bits = b; count = 1 }) (cursorAt (c .at + 1))
+leb-one s c short inside b l e =
+    let w = leb-whole s c short (omega arith) 0 (going-off s (c .at) inside (omega arith)) (omega arith) (omega arith) in
+    let n : length (take 1 (drop (c .at) s)) ≡ 1 = sym (part-long s (c .at) 0 (omega arith)) in
+    let g : groups (take 1 (drop (c .at) s)) ≡ b = rw (drop-cons s (c .at) 0 inside) (omega arith) in
+    let m : b % 2 ^ 64 ≡ b = mod-eq-of-lt (omega arith) in
+    rw w (simp (n, g, m))
 
 pub record Number (s : List ℕ) (c : Cursor) (bs : List ℕ) (n : Cursor) : Type 0 where
   pub short : length s ≤ limit

@@ -2,15 +2,15 @@
 use mathlib.Core.Path.{_≡_, refl, sym, ap, _∙_}
 use mathlib.Core.Bool.{Bool, true, false}
 use mathlib.Core.List.{List}
-use Prim.Native.Nat.{ℕ, suc, _+_, _-_, _*_, _%_, _^_, _≤_, _<_}
+use Prim.Native.Nat.{ℕ, zero, suc, _+_, _-_, _*_, _/_, _%_, _^_, _≤_, _<_}
 use native.Mathlib.Omega.{arith}
-use native.Mathlib.Nat.{mod-eq-of-lt, two-pow-succ}
+use native.Mathlib.Nat.{mod-eq-of-lt, two-pow-succ, div-eq-of-lt, add-mul-div-left, zero-mul, zero-mod}
 use borrow.Author.Tests.{lt-ltb, le-ltb, le-leb, lt-leb, leb-true, leb-false}
 use lib.Dec.{leb}
 use lib.IntN.{ℤ, pos, negsuc}
 use lib.Pow.{pow-mono, pow-pos}
 use lib.Arith.{digits-mod}
-use lib.Bits.{bitOr}
+use lib.Bits.{bitOr, or-zero-r}
 use Rattle.hbc_io.specs.Outcome.{twos}
 use Rattle.hbc_io_leb.specs.Leb.{low64}
 use Rattle.hbc_io_leb.specs.Groups.{signedBits}
@@ -75,20 +75,36 @@ ones-above p v a b h =
     let s : (p - 1) + 1 ≡ p = omega arith in
     ap (λ (x : ℕ). x % 2 ^ 64) (rw s at e) ∙ digits-mod (p - 1) {m = 2 ^ 64} (omega arith)
 
--- the code's two ways, for fewer than ten groups
-pub plus-law : (n v : ℕ) → 1 ≤ n → n < 10 → v < 2 ^ (7 * n) → v < 1 * 2 ^ (7 * n - 1) % 2 ^ 64 → twos 64 v ≡ signedBits v n
-plus-law n v a b h t =
-    let p : 2 ^ (7 * n) ≤ 2 ^ 63 = few n b in
-    let l : v < 2 ^ (7 * n - 1) = omega (arith, half n a) in
-    simp (lt-leb _ _ b, lt-ltb v (2 ^ 63) (omega arith), lt-ltb _ _ l)
+-- the highest of 7 n bits, as a number
+clear : (p v : ℕ) → v < p → v / p ≡ 0
+clear p v h = div-eq-of-lt h
 
-pub minus-law : (n v : ℕ) → 1 ≤ n → n < 10 → v < 2 ^ (7 * n) → 1 * 2 ^ (7 * n - 1) % 2 ^ 64 ≤ v
-    → twos 64 (bitOr v ((18446744073709551615 * 2 ^ (7 * n)) % 2 ^ 64)) ≡ signedBits v n
-minus-law n v a b h t =
+set : (p v : ℕ) → zero < p → p ≤ v → v < p + p → v / p ≡ 1
+set p v z l h =
+    let e : v ≡ (v - p) + p * 1 = omega arith in
+    let d : (v - p) / p ≡ 0 = div-eq-of-lt (omega arith) in
+    ap (λ (x : ℕ). x / p) e ∙ add-mul-div-left (v - p) 1 z ∙ ap (λ (x : ℕ). x + 1) d
+
+pub sign-le : (n v : ℕ) → 1 ≤ n → v < 2 ^ (7 * n) → v / 2 ^ (7 * n - 1) ≤ 1
+sign-le n v a h =
+    by-le (2 ^ (7 * n - 1)) v
+    (λ l. rw (set (2 ^ (7 * n - 1)) v (pow-pos (7 * n - 1)) l (omega (arith, half n a))) (omega arith))
+    (λ l. rw (clear (2 ^ (7 * n - 1)) v l) (omega arith))
+
+-- the bits above are the sign's, for fewer than ten groups
+pub sign-law : (n v : ℕ) → 1 ≤ n → n < 10 → v < 2 ^ (7 * n)
+    → twos 64 (bitOr v ((v / 2 ^ (7 * n - 1) * 18446744073709551615 * 2 ^ (7 * n)) % 2 ^ 64)) ≡ signedBits v n
+sign-law n v a b h =
     let p : 2 ^ (7 * n) ≤ 2 ^ 63 = few n b in
-    let l : 2 ^ (7 * n - 1) ≤ v = omega (arith, half n a) in
+    by-le (2 ^ (7 * n - 1)) v
+    (λ l.
+    let o : v / 2 ^ (7 * n - 1) ≡ 1 = set (2 ^ (7 * n - 1)) v (pow-pos (7 * n - 1)) l (omega (arith, half n a)) in
     let u : 2 ^ 63 ≤ (2 ^ 64 - 2 ^ (7 * n)) + v = omega arith in
     let z : 2 ^ 64 - suc ((2 ^ 64 - 2 ^ (7 * n)) + v) ≡ 2 ^ (7 * n) - suc v = omega arith in
     let w : 7 * n ≤ 64 = omega arith in
     let q : (18446744073709551615 * 2 ^ (7 * n) + v) % 2 ^ 64 ≡ (2 ^ 64 - 2 ^ (7 * n)) + v = ones-above (2 ^ (7 * n)) v (pow-pos (7 * n)) p h in
-    simp (lt-leb _ _ b, or-parts 64 (7 * n) 18446744073709551615 v w h, q, le-ltb _ _ u, le-ltb _ _ l) (ap negsuc z)
+    rw o
+    (simp (lt-leb _ _ b, or-parts 64 (7 * n) 18446744073709551615 v w h, q, le-ltb _ _ u, le-ltb _ _ l) (ap negsuc z)))
+    (λ l.
+    rw (clear (2 ^ (7 * n - 1)) v l)
+    (simp (zero-mul, zero-mod, or-zero-r, lt-leb _ _ b, lt-ltb v (2 ^ 63) (omega arith), lt-ltb _ _ l)))

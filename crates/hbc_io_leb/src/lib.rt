@@ -1,6 +1,7 @@
 // LEB128 numbers, after io.rs: groups of seven bits, the least first, at most ten of them.
 ghost use mathlib.Core.Path.{_≡_};
-ghost use Prim.Native.Nat.{_*_, _^_, _≤_, _<_};
+ghost use Prim.Native.Nat.{_*_, _^_, _≤_, _<_, min};
+ghost use lib.ListN.{length, getD};
 ghost use Rattle.hbc_io.specs.Outcome.{valued, twos};
 ghost use Rattle.hbc_io_leb.specs.Leb.{lebBytes};
 ghost use Rattle.hbc_io_leb.specs.Groups.{groupsOf, ofGroups, signedBits};
@@ -47,6 +48,20 @@ fn wide(b: u8) -> u64
     b as u64
 }
 
+fn at_most_ten(n: usize) -> usize
+    ensures { λ r. ⌜ r ≡ min 10 n ⌝ }
+{
+    if n < 10 { n } else { 10 }
+}
+
+// The byte at a place, 128 past the end: below 128 it is a whole number.
+fn first_at(s: &[u8], at: usize) -> u8
+    ensures { λ r. ⌜ (r < 128 → (at < length (now (s .entry))) × (r ≡ getD (now (s .entry)) at 0)) ⌝ }
+{
+    if at < s.len() { s[at] } else { 128 }
+}
+
+// One byte is most numbers, and goes first. One bound for the loop, so that it stays small enough to be inlined in both reads.
 fn read_groups(s: &[u8], c: Cursor) -> ReadGroups
     ensures { λ r. ⌜ ofGroups r ≡ valued groupsOf (lebBytes (now (s .entry)) c) ⌝ }
 {
@@ -57,12 +72,20 @@ fn read_groups(s: &[u8], c: Cursor) -> ReadGroups
     if s.len() < at {
         return ReadGroups::Refused(refuse(2, 0), c);
     }
+    let first = first_at(s, at);
+    if first < 128 {
+        return ReadGroups::Got(
+            Groups {
+                bits: wide(first),
+                count: 1,
+            },
+            Cursor { at: at + 1 },
+        );
+    }
+    let most = at_most_ten(s.len() - at);
     let mut v: u64 = 0;
     let mut k: usize = 0;
-    while k < 10 {
-        if s.len() <= at + k {
-            return ReadGroups::Refused(refuse(3, 0), Cursor { at: s.len() });
-        }
+    while k < most {
         let b = s[at + k];
         v |= wide(b % 128) << (7 * k as u64);
         if b < 128 {
@@ -75,6 +98,9 @@ fn read_groups(s: &[u8], c: Cursor) -> ReadGroups
             );
         }
         k += 1;
+    }
+    if most < 10 {
+        return ReadGroups::Refused(refuse(3, 0), Cursor { at: s.len() });
     }
     ReadGroups::Refused(refuse(5, 0), Cursor { at: at + 10 })
 }
@@ -108,11 +134,9 @@ fn extended(bits: u64, count: usize) -> i64
         return signed64(bits);
     }
     let shift = 7 * count as u64;
-    let one: u64 = 1;
-    if bits < one << (shift - 1) {
-        return signed64(bits);
-    }
-    signed64(bits | (0xFFFF_FFFF_FFFF_FFFF << shift))
+    // 0 or 1: no branch, which random signs would mispredict
+    let sign = bits >> (shift - 1);
+    signed64(bits | ((sign * 0xFFFF_FFFF_FFFF_FFFF) << shift))
 }
 
 pub fn read_sleb128(s: &[u8], c: Cursor) -> ReadSleb

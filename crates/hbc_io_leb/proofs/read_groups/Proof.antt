@@ -1,5 +1,5 @@
 use Prim.Native.Nat.{ℕ, suc, _+_, _-_, _*_, _%_, _^_, _≤_, _<_}
-use mathlib.Core.Path.{_≡_, refl}
+use mathlib.Core.Path.{_≡_, refl, sym}
 use native.Mathlib.Omega.{arith}
 use native.Mathlib.Numerals.{add-one}
 use native.Mathlib.Nat.{add-zero, zero-add}
@@ -7,16 +7,16 @@ use borrow.Author.Tests.{lt-ltb, le-ltb}
 use denote.Ref.{now}
 use lib.ListN.{length, getD, take, drop}
 use Rattle.hbc_io_leb.specs.Leb.{going, groups, lebBytes}
-use Rattle.hbc_io_leb.proofs.Lebs.{part-long, going-off, going-end, turn-going, turn-groups, leb-long, leb-cut, leb-whole}
+use Rattle.hbc_io_leb.proofs.Lebs.{part-long, going-off, going-end, turn-going, turn-groups, leb-long, leb-cut, leb-whole, leb-one}
 use borrow.Author.Needs.{needs}
 use Rattle.hbc_io_leb.proofs.read_groups.Statement.{statement}
 use Rattle.hbc_io_leb.proofs.read_groups.Tie as tie
 
 abbrev Inv-loop : tie.InvT-loop
-Inv-loop s at v₀ k₀ v k = (at + k ≤ length s) × (k ≤ 10) × (going (drop at s) ≡ k + going (drop (at + k) s)) × (v ≡ groups (take k (drop at s)) % 2 ^ 64)
+Inv-loop s at first most v₀ k₀ v k = (k ≤ most) × (going (drop at s) ≡ k + going (drop (at + k) s)) × (v ≡ groups (take k (drop at s)) % 2 ^ 64)
 
 abbrev μ-loop : tie.MeasureT-loop
-μ-loop s at v₀ k₀ v k = 10 - k
+μ-loop s at first most v₀ k₀ v k = most - k
 
 refuse-requires : tie.Need-refuse-requires Inv-loop μ-loop
 refuse-requires c κs = search needs
@@ -32,21 +32,29 @@ returns-2 : tie.Need-returns-2 Inv-loop μ-loop
 unfolding lebBytes
 returns-2 c = simp (c .refuse2 .ensures, le-ltb _ _ (c .before .before .if1 .left), lt-ltb _ _ (c .before .if2 .taken))
 
-loop-holds : tie.Need-loop-holds Inv-loop μ-loop
-loop-holds c = (search needs, search needs, rw (add-zero, zero-add), refl)
+first-at-requires : tie.Need-first-at-requires Inv-loop μ-loop
+first-at-requires c κs = search needs
 
-add-if3 : tie.Need-add-if3 Inv-loop μ-loop
-add-if3 c = search needs
+wide-requires : tie.Need-wide-requires Inv-loop μ-loop
+wide-requires c κs = search needs
 
-refuse-requires-3 : tie.Need-refuse-requires-3 Inv-loop μ-loop
-refuse-requires-3 c κs = search needs
+add-t15 : tie.Need-add-t15 Inv-loop μ-loop
+add-t15 c = search needs
 
 returns-3 : tie.Need-returns-3 Inv-loop μ-loop
 returns-3 c =
-    let a = c .before .before .before .before .before .before .before .args in
-    let l = c .before .before .before .loop in
-    let e : going (drop (a .c .at) (now (a .s))) ≡ l .k = omega (arith, going-end (now (a .s)) (a .c .at + l .k) (c .before .if3 .taken)) in
-    rw (c .refuse3 .ensures, leb-cut (now (a .s)) (a .c) (c .before .before .before .before .before .if1 .left) (c .before .before .before .before .if2 .left) (l .k) e (c .before .before .loop-test .taken) (c .before .if3 .taken))
+    let a = c .before .before .before .before .before .before .args in
+    let f = c .before .before .first-at .ensures (c .before .if3 .taken) in
+    rw (c .wide .ensures) (sym (leb-one (now (a .s)) (a .c) (c .before .before .before .before .if1 .left) (f .0) (c .before .before .first-at .result) (c .before .if3 .taken) (f .1)))
+
+sub-at-most-ten : tie.Need-sub-at-most-ten Inv-loop μ-loop
+sub-at-most-ten c = search needs
+
+at-most-ten-requires : tie.Need-at-most-ten-requires Inv-loop μ-loop
+at-most-ten-requires c κs = search needs
+
+loop-holds : tie.Need-loop-holds Inv-loop μ-loop
+loop-holds c = (search needs, rw (add-zero, zero-add), refl)
 
 add-b : tie.Need-add-b Inv-loop μ-loop
 add-b c = search needs
@@ -54,8 +62,8 @@ add-b c = search needs
 shared-slice-read-b : tie.Need-shared-slice-read-b Inv-loop μ-loop
 shared-slice-read-b c = search needs
 
-wide-requires : tie.Need-wide-requires Inv-loop μ-loop
-wide-requires c κs = search needs
+wide-requires-2 : tie.Need-wide-requires-2 Inv-loop μ-loop
+wide-requires-2 c κs = search needs
 
 mul-v : tie.Need-mul-v Inv-loop μ-loop
 mul-v c = search needs
@@ -63,26 +71,27 @@ mul-v c = search needs
 shl-v : tie.Need-shl-v Inv-loop μ-loop
 shl-v c = search needs
 
-add-t23 : tie.Need-add-t23 Inv-loop μ-loop
-add-t23 c = search needs
-
-add-t25 : tie.Need-add-t25 Inv-loop μ-loop
-add-t25 c = search needs
-
 add-t26 : tie.Need-add-t26 Inv-loop μ-loop
 add-t26 c = search needs
 
+add-t28 : tie.Need-add-t28 Inv-loop μ-loop
+add-t28 c = search needs
+
+add-t29 : tie.Need-add-t29 Inv-loop μ-loop
+add-t29 c = search needs
+
 returns-4 : tie.Need-returns-4 Inv-loop μ-loop
 returns-4 c =
-    let a = c .before .before .before .before .before .before .before .before .before .args in
+    let a = c .before .before .before .before .before .before .before .before .before .before .before .args in
     let s = now (a .s) in
-    let l = c .before .before .before .before .before .loop in
+    let l = c .before .before .before .before .loop in
     let h : a .c .at + l .k < length s = omega arith in
+    let t : l .k < 10 = omega arith in
     let e : going (drop (a .c .at) s) ≡ l .k = omega (arith, going-off s (a .c .at + l .k) h (c .if4 .taken)) in
     let n : l .k + 1 ≡ length (take (suc (l .k)) (drop (a .c .at) s)) = part-long s (a .c .at) (l .k) h in
-    let g = turn-groups s (a .c .at) (l .k) (l .v) (c .before .wide .result) h (c .before .before .before .before .loop-test .taken) (l .inv .3) (c .before .wide .ensures) in
+    let g = turn-groups s (a .c .at) (l .k) (l .v) (c .before .wide2 .result) h t (l .inv .2) (c .before .wide2 .ensures) in
     let f : a .c .at + l .k + 1 ≡ a .c .at + suc (l .k) = omega arith in
-    rw (leb-whole s (a .c) (c .before .before .before .before .before .before .before .if1 .left) (c .before .before .before .before .before .before .if2 .left) (l .k) e (c .before .before .before .before .loop-test .taken) h, g, n, f)
+    rw (leb-whole s (a .c) (c .before .before .before .before .before .before .before .before .before .if1 .left) (c .before .before .before .before .before .before .before .before .if2 .left) (l .k) e t h, g, n, f)
 
 add-k : tie.Need-add-k Inv-loop μ-loop
 add-k c = search needs
@@ -92,26 +101,37 @@ loop-less c = search needs
 
 loop-again : tie.Need-loop-again Inv-loop μ-loop
 loop-again c =
-    let a = c .before .before .before .before .before .before .before .before .before .args in
+    let a = c .before .before .before .before .before .before .before .before .before .before .before .args in
     let s = now (a .s) in
-    let l = c .before .before .before .before .before .loop in
-    let h : a .c .at + l .k < length s = omega arith in (
+    let l = c .before .before .before .before .loop in
+    let h : a .c .at + l .k < length s = omega arith in
+    let t : l .k < 10 = omega arith in (
       omega arith,
-      omega arith,
-      turn-going s (a .c .at) (l .k) h (c .if4 .left) (l .inv .2),
-      rw add-one (turn-groups s (a .c .at) (l .k) (l .v) (c .before .wide .result) h (c .before .before .before .before .loop-test .taken) (l .inv .3) (c .before .wide .ensures)),
+      turn-going s (a .c .at) (l .k) h (c .if4 .left) (l .inv .1),
+      rw add-one (turn-groups s (a .c .at) (l .k) (l .v) (c .before .wide2 .result) h t (l .inv .2) (c .before .wide2 .ensures)),
     )
+
+refuse-requires-3 : tie.Need-refuse-requires-3 Inv-loop μ-loop
+refuse-requires-3 c κs = search needs
+
+returns-5 : tie.Need-returns-5 Inv-loop μ-loop
+returns-5 c =
+    let a = c .before .before .before .before .before .before .before .before .before .before .args in
+    let k = c .before .before .before .loop .k in
+    let h : length (now (a .s)) ≤ a .c .at + k = omega arith in
+    let e : going (drop (a .c .at) (now (a .s))) ≡ k = omega (arith, going-end (now (a .s)) (a .c .at + k) h) in
+    rw (c .refuse3 .ensures, leb-cut (now (a .s)) (a .c) (c .before .before .before .before .before .before .before .before .if1 .left) (c .before .before .before .before .before .before .before .if2 .left) k e (omega arith) h)
 
 refuse-requires-4 : tie.Need-refuse-requires-4 Inv-loop μ-loop
 refuse-requires-4 c κs = search needs
 
-add-t7 : tie.Need-add-t7 Inv-loop μ-loop
-add-t7 c = search needs
+add-t9 : tie.Need-add-t9 Inv-loop μ-loop
+add-t9 c = search needs
 
-returns-5 : tie.Need-returns-5 Inv-loop μ-loop
-returns-5 c =
-    let a = c .before .before .before .before .before .before .args in
-    rw (c .refuse4 .ensures, leb-long (now (a .s)) (a .c) (c .before .before .before .before .if1 .left) (c .before .before .before .if2 .left) (omega arith))
+returns-6 : tie.Need-returns-6 Inv-loop μ-loop
+returns-6 c =
+    let a = c .before .before .before .before .before .before .before .before .before .before .args in
+    rw (c .refuse4 .ensures, leb-long (now (a .s)) (a .c) (c .before .before .before .before .before .before .before .before .if1 .left) (c .before .before .before .before .before .before .before .if2 .left) (omega arith))
 
 pub read-groups-spec : {M : Type 1} → statement M
 read-groups-spec =
@@ -123,22 +143,27 @@ read-groups-spec =
     returns
     refuse-requires-2
     returns-2
-    loop-holds
-    add-if3
-    refuse-requires-3
+    first-at-requires
+    wide-requires
+    add-t15
     returns-3
+    sub-at-most-ten
+    at-most-ten-requires
+    loop-holds
     add-b
     shared-slice-read-b
-    wide-requires
+    wide-requires-2
     mul-v
     shl-v
-    add-t23
-    add-t25
     add-t26
+    add-t28
+    add-t29
     returns-4
     add-k
     loop-less
     loop-again
+    refuse-requires-3
+    returns-5
     refuse-requires-4
-    add-t7
-    returns-5)
+    add-t9
+    returns-6)
