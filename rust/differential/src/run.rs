@@ -67,9 +67,9 @@ impl Run {
         self.cases += 1;
     }
 
-    /// Whether a random group should go on: a thousand cases at least, then until the time is up.
+    /// Whether a random group should go on: a good number of cases in any event, then until the time is up.
     pub fn more(&self) -> bool {
-        !self.cases.is_multiple_of(1000) || self.cases == 0 || Instant::now() < self.until
+        self.cases < 500_000 || Instant::now() < self.until
     }
 
     /// The random numbers of a group: other groups neither shift nor share them.
