@@ -1,2 +1,3 @@
 pub mod Code
 pub mod Io
+pub mod Table

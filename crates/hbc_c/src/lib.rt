@@ -4,7 +4,8 @@ ghost use mathlib.Core.Path.{_≡_};
 ghost use Rattle.hbc_c.specs.Code.{codeOf};
 use hbc_io::Refusal;
 
-mod io;
+pub mod io;
+pub mod table;
 
 pub(crate) fn code(r: Refusal) -> u64
     ensures { λ n. ⌜ n ≡ codeOf r ⌝ }

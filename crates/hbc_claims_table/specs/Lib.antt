@@ -1,0 +1,4 @@
+pub mod Cases
+pub mod Unique
+pub mod Tables
+pub mod Strings

@@ -1,0 +1,78 @@
+use Rattle.hbc_table.specs.Laws.{is-long, is-past, is-small, is-cut, is-read, div-fits}
+use native.Mathlib.Omega.{arith}
+use borrow.Author.Needs.{needs}
+use Rattle.hbc_table.proofs.read_words.Statement.{statement}
+use Rattle.hbc_table.proofs.read_words.Tie as tie
+
+refuse-requires : tie.Need-refuse-requires
+refuse-requires c κs = search needs
+
+returns : tie.Need-returns
+returns c = is-long (omega arith) (c .refuse .ensures)
+
+refuse-requires-2 : tie.Need-refuse-requires-2
+refuse-requires-2 c κs = search needs
+
+returns-2 : tie.Need-returns-2
+returns-2 c = is-past (omega arith) (omega arith) (c .refuse2 .ensures)
+
+refuse-requires-3 : tie.Need-refuse-requires-3
+refuse-requires-3 c κs = search needs
+
+returns-3 : tie.Need-returns-3
+returns-3 c = is-small (omega arith) (omega arith) (omega arith) (c .refuse3 .ensures)
+
+sub-left : tie.Need-sub-left
+sub-left c = search needs
+
+mul-if4 : tie.Need-mul-if4
+mul-if4 c = search needs
+
+div-refuse : tie.Need-div-refuse
+div-refuse c = search needs
+
+cast-refuse : tie.Need-cast-refuse
+cast-refuse c = record { fits = div-fits (c .before .before .before .before .before .before .pre .0) (omega arith) }
+
+refuse-requires-4 : tie.Need-refuse-requires-4
+refuse-requires-4 c κs = search needs
+
+returns-4 : tie.Need-returns-4
+returns-4 c = is-cut (omega arith) (omega arith) (omega arith) (omega arith) (c .refuse4 .ensures)
+
+fill-requires : tie.Need-fill-requires
+fill-requires c κs = search needs
+
+mul-t8 : tie.Need-mul-t8
+mul-t8 c = search needs
+
+add-t19 : tie.Need-add-t19
+add-t19 c = search needs
+
+same-length : tie.Need-same-length
+same-length c = search needs
+
+returns-5 : tie.Need-returns-5
+returns-5 c = is-read (omega arith) (omega arith) (omega arith) (omega arith) (c .before .before .fill .ensures)
+
+pub read-words-spec : {M : Type 1} → statement M
+read-words-spec =
+    tie.close
+    (tie.spec
+    refuse-requires
+    returns
+    refuse-requires-2
+    returns-2
+    refuse-requires-3
+    returns-3
+    sub-left
+    mul-if4
+    div-refuse
+    cast-refuse
+    refuse-requires-4
+    returns-4
+    fill-requires
+    mul-t8
+    add-t19
+    same-length
+    returns-5)

@@ -1,0 +1,2 @@
+pub mod StringBytes
+pub mod Laws

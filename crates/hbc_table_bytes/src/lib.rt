@@ -1,0 +1,43 @@
+// One string's bytes: the part of the storage that its row names.
+ghost use mathlib.Core.Path.{_≡_};
+ghost use Prim.Native.Nat.{_*_, _/_, _<_};
+ghost use Rattle.hbc_table_bytes.specs.StringBytes.{spanAt, stringSpan, stringBytes};
+use hbc_io::Span;
+
+// The span that row `index` says, whatever the storage.
+fn span_at(rows: &[u32], index: usize) -> Span
+    ensures { λ r. ⌜ r ≡ spanAt (now (rows .entry)) index ⌝ }
+{
+    if index < rows.len() / 4 {
+        let at = index * 4;
+        if hbc_rows::word_of(rows, at + 2) == 0 {
+            return Span {
+                start: hbc_rows::word_of(rows, at) as usize,
+                len: hbc_rows::word_of(rows, at + 1) as usize,
+            };
+        }
+        return Span { start: 0, len: 0 };
+    }
+    Span { start: 0, len: 0 }
+}
+
+// Where in the storage the string's bytes are; start and length 0 where there are none to hand back.
+pub fn string_span(storage: &[u8], rows: &[u32], index: usize) -> Span
+    ensures { λ r. ⌜ r ≡ stringSpan (now (storage .entry)) (now (rows .entry)) index ⌝ }
+{
+    let p = span_at(rows, index);
+    if storage.len() < p.start {
+        return Span { start: 0, len: 0 };
+    }
+    if storage.len() - p.start < p.len {
+        return Span { start: 0, len: 0 };
+    }
+    p
+}
+
+// The string's bytes themselves.
+pub fn string_bytes<'s, 'r>(storage: &'s [u8], rows: &'r [u32], index: usize) -> &'s [u8]
+    ensures { λ r. ⌜ now r ≡ stringBytes (now (storage .entry)) (now (rows .entry)) index ⌝ }
+{
+    hbc_io::part(storage, span_at(rows, index))
+}

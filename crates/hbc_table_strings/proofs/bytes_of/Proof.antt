@@ -1,0 +1,23 @@
+use Rattle.hbc_table_strings.specs.Strings.{bytesOf}
+use Rattle.hbc_rows.specs.Laws.{test-eq, test-ne}
+use native.Mathlib.Omega.{arith}
+use borrow.Author.Needs.{needs}
+use Rattle.hbc_table_strings.proofs.bytes_of.Statement.{statement}
+use Rattle.hbc_table_strings.proofs.bytes_of.Tie as tie
+
+field-of-requires : tie.Need-field-of-requires
+field-of-requires c κs = search needs
+
+mul-result : tie.Need-mul-result
+mul-result c = search needs
+
+returns : tie.Need-returns
+unfolding bytesOf
+returns c = (rw (test-eq (c .before .field-of .ensures) (c .if1 .taken)), omega arith)
+
+returns-2 : tie.Need-returns-2
+unfolding bytesOf
+returns-2 c = (rw (test-ne (c .before .field-of .ensures) (c .if1 .left)), omega arith)
+
+pub bytes-of-spec : {M : Type 1} → statement M
+bytes-of-spec = tie.close (tie.spec field-of-requires mul-result returns returns-2)

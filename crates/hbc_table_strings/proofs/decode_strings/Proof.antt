@@ -1,0 +1,58 @@
+use Rattle.hbc_table_strings.specs.Laws.{is-long, is-small, is-read, is-lacking}
+use native.Mathlib.Omega.{arith}
+use borrow.Author.Needs.{needs}
+use Rattle.hbc_table_strings.proofs.decode_strings.Statement.{statement}
+use Rattle.hbc_table_strings.proofs.decode_strings.Tie as tie
+
+lesser-requires : tie.Need-lesser-requires
+lesser-requires c κs = search needs
+
+refuse-requires : tie.Need-refuse-requires
+refuse-requires c κs = search needs
+
+returns : tie.Need-returns
+returns c = is-long (omega arith) (c .refuse .ensures)
+
+refuse-requires-2 : tie.Need-refuse-requires-2
+refuse-requires-2 c κs = search needs
+
+returns-2 : tie.Need-returns-2
+returns-2 c = is-small (omega arith) (rw (← c .before .before .before .lesser .ensures .0) (c .before .if2 .taken)) (c .refuse2 .ensures)
+
+check-requires : tie.Need-check-requires
+check-requires c κs = search needs
+
+enum-told : tie.Need-enum-told
+enum-told c = search needs
+
+write-requires : tie.Need-write-requires
+write-requires c κs = search needs
+
+enum-told-2 : tie.Need-enum-told-2
+enum-told-2 c = search needs
+
+same-length : tie.Need-same-length
+same-length c = search needs
+
+returns-3 : tie.Need-returns-3
+returns-3 c = is-read (c .before .before .before .before .before .before .before .before .before .lesser .ensures .0) (omega arith) (omega arith) (c .before .before .before .before .before .before .check .ensures) (c .before .before .before .before .enum-told .given .1) (c .before .before .write .ensures)
+
+returns-4 : tie.Need-returns-4
+returns-4 c = is-lacking (c .before .before .before .before .before .lesser .ensures .0) (omega arith) (omega arith) (c .before .before .check .ensures) (c .enum-told2 .given .1)
+
+pub decode-strings-spec : {M : Type 1} → statement M
+decode-strings-spec =
+    tie.close
+    (tie.spec
+    lesser-requires
+    refuse-requires
+    returns
+    refuse-requires-2
+    returns-2
+    check-requires
+    enum-told
+    write-requires
+    enum-told-2
+    same-length
+    returns-3
+    returns-4)

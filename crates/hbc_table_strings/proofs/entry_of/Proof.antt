@@ -1,0 +1,40 @@
+use Rattle.hbc_table_strings.specs.Strings.{entryOf}
+use Rattle.hbc_rows.specs.Laws.{test-eq, test-ne}
+use borrow.Author.Needs.{needs}
+use Rattle.hbc_table_strings.proofs.entry_of.Statement.{statement}
+use Rattle.hbc_table_strings.proofs.entry_of.Tie as tie
+
+long-one-requires : tie.Need-long-one-requires
+long-one-requires c κs = search needs
+
+pair-taken-requires : tie.Need-pair-taken-requires
+pair-taken-requires c κs = search needs
+
+pair-at-requires : tie.Need-pair-at-requires
+pair-at-requires c κs = search needs
+
+returns : tie.Need-returns
+unfolding entryOf
+returns c = rw (test-eq (c .before .before .before .long-one .ensures .0) (c .before .before .if1 .taken), ← c .before .pair-taken .ensures) (c .pair-at .ensures)
+
+field-of-requires : tie.Need-field-of-requires
+field-of-requires c κs = search needs
+
+field-of-requires-2 : tie.Need-field-of-requires-2
+field-of-requires-2 c κs = search needs
+
+returns-2 : tie.Need-returns-2
+unfolding entryOf
+returns-2 c = rw (test-ne (c .before .before .before .long-one .ensures .0) (c .before .before .if1 .left), c .before .field-of .ensures, c .field-of2 .ensures)
+
+pub entry-of-spec : {M : Type 1} → statement M
+entry-of-spec =
+    tie.close
+    (tie.spec
+    long-one-requires
+    pair-taken-requires
+    pair-at-requires
+    returns
+    field-of-requires
+    field-of-requires-2
+    returns-2)

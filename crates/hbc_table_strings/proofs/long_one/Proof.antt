@@ -1,0 +1,20 @@
+use Rattle.hbc_table_strings.specs.Strings.{longOne}
+use Rattle.hbc_rows.specs.Laws.{test-eq, test-ne}
+use native.Mathlib.Omega.{arith}
+use borrow.Author.Needs.{needs}
+use Rattle.hbc_table_strings.proofs.long_one.Statement.{statement}
+use Rattle.hbc_table_strings.proofs.long_one.Tie as tie
+
+field-of-requires : tie.Need-field-of-requires
+field-of-requires c κs = search needs
+
+returns : tie.Need-returns
+unfolding longOne
+returns c = (rw (test-eq (c .before .field-of .ensures) (c .if1 .taken)), omega arith)
+
+returns-2 : tie.Need-returns-2
+unfolding longOne
+returns-2 c = (rw (test-ne (c .before .field-of .ensures) (c .if1 .left)), omega arith)
+
+pub long-one-spec : {M : Type 1} → statement M
+long-one-spec = tie.close (tie.spec field-of-requires returns returns-2)
