@@ -1,3 +1,5 @@
 pub mod Code
 pub mod Io
+pub mod Function
+pub mod FunctionLaws
 pub mod Table

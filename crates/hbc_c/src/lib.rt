@@ -4,6 +4,7 @@ ghost use mathlib.Core.Path.{_≡_};
 ghost use Rattle.hbc_c.specs.Code.{codeOf};
 use hbc_io::Refusal;
 
+pub mod function;
 pub mod io;
 pub mod table;
 
