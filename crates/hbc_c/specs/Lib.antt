@@ -3,3 +3,6 @@ pub mod Io
 pub mod Function
 pub mod FunctionLaws
 pub mod Table
+pub mod Buffer
+pub mod Parsing
+pub mod Debug
