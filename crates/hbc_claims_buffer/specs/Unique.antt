@@ -17,21 +17,11 @@ use Rattle.hbc_buffer_literal.proofs.read_literal.Reads as of-read-literal
 use Rattle.hbc_buffer.proofs.read_series.Reads as of-read-series
 use Rattle.hbc_buffer_object.proofs.object_part.Reads as of-object-part
 use Rattle.hbc_buffer_object.proofs.read_object.Reads as of-read-object
-
-abbrev pub One : {K A R E : Type 0} → (K → A → R → E → Type 0) → Type 0
-One {K} {A} {R} {E} L = (k : K) (a : A) (r q : R) (s u : E) → L k a r s → L k a q u → r ≡ q
+use Rattle.hbc_claims_law.specs.Law.{One, Seen, same}
 
 -- and the words that E, all parameters as they are left, holds at two places
 abbrev pub Both : {K A R E : Type 0} → (K → A → R → E → Type 0) → {W X : Type 0} → (E → W) → (E → X) → Type 0
 Both {K} {A} {R} {E} L w v = (k : K) (a : A) (r q : R) (s u : E) → L k a r s → L k a q u → (r ≡ q) × (w s ≡ w u) × (v s ≡ v u)
-
--- a part that is handed back: its bytes
-abbrev pub Bytes : {K A R E W : Type 0} → (K → A → R → E → Type 0) → (R → W) → Type 0
-Bytes {K} {A} {R} {E} L w = (k : K) (a : A) (r q : R) (s u : E) → L k a r s → L k a q u → w r ≡ w q
-
--- what equals one thing is one thing
-pub same : {A : Type 0} {x r q : A} → r ≡ x → q ≡ x → r ≡ q
-same e f = e ∙ sym f
 
 -- an answer is known by what it says
 abbrev back-literal : Outcome Literal → ReadLiteral
@@ -66,7 +56,7 @@ Determined read_payload = One of-read-payload.Learnt
 Determined read_literal = One of-read-literal.Learnt
 Determined read_series = Both of-read-series.Learnt (λ s. now (s .1 .1 .1 .0)) (λ s. now (s .1 .1 .1 .1 .0))
 Determined read_object = Both of-read-object.Learnt (λ s. now (s .1 .1 .1 .1 .1 .0)) (λ s. now (s .1 .1 .1 .1 .1 .1 .0))
-Determined object_part = Bytes of-object-part.Learnt (λ r. now r)
+Determined object_part = Seen of-object-part.Learnt (λ r. now r)
 
 pub determined : (c : Call) → Determined c
 determined width = λ k a r q s u. same

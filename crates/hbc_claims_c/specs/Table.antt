@@ -1,6 +1,7 @@
 -- The exported calls on string tables: each contract, as the checker has it, leaves one answer, and one value for every lent number and word.
-use mathlib.Core.Path.{_≡_, sym, _∙_}
+use mathlib.Core.Path.{_≡_}
 use denote.Ref.{now}
+use Rattle.hbc_claims_law.specs.Law.{same}
 use Rattle.hbc_c.proofs.table.hbc_read_u32_table.Reads as of-read-u32-table
 use Rattle.hbc_c.proofs.table.hbc_read_pair_table.Reads as of-read-pair-table
 use Rattle.hbc_c.proofs.table.hbc_decode_strings.Reads as of-decode-strings
@@ -9,9 +10,6 @@ use Rattle.hbc_c.proofs.table.hbc_string_bytes.Reads as of-string-bytes
 -- what f takes of the answer and of all parameters as they are left is one
 abbrev pub One : {K A R E : Type 0} → (K → A → R → E → Type 0) → {T : Type 0} → (R → E → T) → Type 0
 One {K} {A} {R} {E} L f = (k : K) (a : A) (r q : R) (s u : E) → L k a r s → L k a q u → f r s ≡ f q u
-
-same : {A : Type 0} {x r q : A} → r ≡ x → q ≡ x → r ≡ q
-same e f = e ∙ sym f
 
 pub data Call : Type 0 where
   hbc_read_u32_table : Call

@@ -1,5 +1,5 @@
 -- Each public call's contract, as the checker has it, leaves one answer, and one value for every lent word.
-use mathlib.Core.Path.{_≡_, sym, ap, _∙_}
+use mathlib.Core.Path.{_≡_, ap, _∙_}
 use mathlib.Core.List.{List}
 use Prim.Native.Nat.{ℕ}
 use denote.Ref.{now}
@@ -19,24 +19,7 @@ use Rattle.hbc_debug_scopes.proofs.write_scopes.Reads as of-write-scopes
 use Rattle.hbc_debug_callees.proofs.count_callees.Reads as of-count-callees
 use Rattle.hbc_debug_callees.proofs.write_callees.Reads as of-write-callees
 use Rattle.hbc_debug.proofs.read_debug.Reads as of-read-debug
-
--- one answer, seen through `f` where it is a part of what was lent
-abbrev pub One : {K A R E : Type 0} → (K → A → R → E → Type 0) → Type 0
-One {K} {A} {R} {E} L = (k : K) (a : A) (r q : R) (s u : E) → L k a r s → L k a q u → r ≡ q
-
-abbrev pub Bytes : {K A R E : Type 0} → (K → A → R → E → Type 0) → {W : Type 0} → (R → W) → Type 0
-Bytes {K} {A} {R} {E} L f = (k : K) (a : A) (r q : R) (s u : E) → L k a r s → L k a q u → f r ≡ f q
-
--- and the words that E, all parameters as they are left, holds at a place
-abbrev pub Words : {K A R E : Type 0} → (K → A → R → E → Type 0) → {W : Type 0} → (E → W) → Type 0
-Words {K} {A} {R} {E} L words = (k : K) (a : A) (r q : R) (s u : E) → L k a r s → L k a q u → words s ≡ words u
-
-abbrev pub Both : {K A R E : Type 0} → (K → A → R → E → Type 0) → {W : Type 0} → (E → W) → Type 0
-Both {K} {A} {R} {E} L words = (k : K) (a : A) (r q : R) (s u : E) → L k a r s → L k a q u → (r ≡ q) × (words s ≡ words u)
-
--- the law: what equals one thing is one thing
-pub same : {A : Type 0} {x r q : A} → r ≡ x → q ≡ x → r ≡ q
-same e f = e ∙ sym f
+use Rattle.hbc_claims_law.specs.Law.{One, Seen, Words, Both, same}
 
 -- an answer is known by what each of its cases says
 held-one : (r q : ReadHeld) → ofHeld r ≡ ofHeld q → r ≡ q
@@ -62,7 +45,7 @@ abbrev pub Determined : Call → Type 0
 Determined read_bits = One of-read-bits.Learnt
 Determined put_row = Words of-put-row.Learnt (λ s. now (s .0))
 Determined find_parts = One of-find-parts.Learnt
-Determined part_bytes = Bytes of-part-bytes.Learnt (λ r. now r)
+Determined part_bytes = Seen of-part-bytes.Learnt (λ r. now r)
 Determined count_strings = One of-count-strings.Learnt
 Determined write_strings = Words of-write-strings.Learnt (λ s. now (s .1 .1 .0))
 Determined count_scopes = One of-count-scopes.Learnt

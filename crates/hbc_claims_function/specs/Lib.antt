@@ -5,5 +5,5 @@ pub mod Scans
 pub mod Accepted
 pub mod Tables
 pub mod Demand3
-pub mod Cases
+pub mod Packed
 pub mod Unique

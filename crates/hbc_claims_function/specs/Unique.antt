@@ -1,5 +1,5 @@
 -- Each public call's contract, as the checker has it, leaves one answer, and one value for every lent word.
-use mathlib.Core.Path.{_≡_, refl, sym, _∙_}
+use mathlib.Core.Path.{_≡_, refl, sym}
 use Prim.Native.Nat.{ℕ}
 use native.Mathlib.Omega.{arith}
 use denote.Ref.{now}
@@ -22,21 +22,7 @@ use Rattle.hbc_header_ground.proofs.function_meets.Reads as of-function-meets
 use Rattle.hbc_function.proofs.read_functions.Reads as of-read-functions
 use Rattle.hbc_function.proofs.refresh_functions.Reads as of-refresh-functions
 use Rattle.hbc_claims_function.specs.Scans.{no-gives}
-
--- K the lifetimes, A the arguments, R the answer, E all parameters as they are left: one answer
-abbrev pub One : {K A R E : Type 0} → (K → A → R → E → Type 0) → Type 0
-One {K} {A} {R} {E} L = (k : K) (a : A) (r q : R) (s u : E) → L k a r s → L k a q u → r ≡ q
-
--- one value for the words that E holds at a place
-abbrev pub Words : {K A R E : Type 0} → (K → A → R → E → Type 0) → {W : Type 0} → (E → W) → Type 0
-Words {K} {A} {R} {E} L words = (k : K) (a : A) (r q : R) (s u : E) → L k a r s → L k a q u → words s ≡ words u
-
-abbrev pub Both : {K A R E : Type 0} → (K → A → R → E → Type 0) → {W : Type 0} → (E → W) → Type 0
-Both {K} {A} {R} {E} L words = (k : K) (a : A) (r q : R) (s u : E) → L k a r s → L k a q u → (r ≡ q) × (words s ≡ words u)
-
--- what equals one thing is one thing
-pub same : {A : Type 0} {x r q : A} → r ≡ x → q ≡ x → r ≡ q
-same e f = e ∙ sym f
+use Rattle.hbc_claims_law.specs.Law.{One, Words, Both, same}
 
 -- an answer is known by what it says
 pub one-function : (a b : Function) → ofFunction a ≡ ofFunction b → a ≡ b

@@ -14,11 +14,7 @@ use Rattle.hbc_parsing_sections.specs.declared.ReadSections.{ReadSections}
 use Rattle.hbc_parsing_sections.specs.declared.ReadSections.the-variants as all
 use Rattle.hbc_parsing_sections.specs.Answers.{ofSections}
 use Rattle.hbc_parsing_sections.proofs.trailing_sections.Reads as of-trailing-sections
-use Rattle.hbc_claims.specs.Unique.{One, same}
-
--- a contract L: whoever meets it answers alike and leaves the same words
-abbrev pub Both : {K A R E : Type 0} → (K → A → R → E → Type 0) → {W : Type 0} → (E → W) → Type 0
-Both {K} {A} {R} {E} L words = (k : K) (a : A) (r q : R) (s u : E) → L k a r s → L k a q u → (r ≡ q) × (words s ≡ words u)
+use Rattle.hbc_claims_law.specs.Law.{One, Both, same}
 
 not-both : {A : Type 0} {a : A} {r : Refusal} → gives a ≡ refuses r → ⊥
 not-both e = let z : _≡_ {A = ℕ} 0 1 = cc in omega arith

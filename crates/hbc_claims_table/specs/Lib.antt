@@ -1,4 +1,3 @@
-pub mod Cases
 pub mod Unique
 pub mod Tables
 pub mod Strings

@@ -1,5 +1,5 @@
 -- Each public call's contract, as the checker has it, leaves one answer, and one value for every lent word.
-use mathlib.Core.Path.{_≡_, refl, sym, _∙_}
+use mathlib.Core.Path.{_≡_, refl}
 use denote.Ref.{now}
 use Rattle.hbc_io.specs.Answers.{ofMoved}
 use Rattle.hbc_io.specs.declared.Moved.{Moved}
@@ -13,21 +13,7 @@ use Rattle.hbc_table.proofs.read_pair_table.Reads as of-read-pair-table
 use Rattle.hbc_table_strings.proofs.decode_strings.Reads as of-decode-strings
 use Rattle.hbc_table_bytes.proofs.string_span.Reads as of-string-span
 use Rattle.hbc_table_bytes.proofs.string_bytes.Reads as of-string-bytes
-
--- what a call's contract tells of its answer, taken by f: one answer
-abbrev pub One : {K A R E : Type 0} → (K → A → R → E → Type 0) → {T : Type 0} → (R → T) → Type 0
-One {K} {A} {R} {E} L f = (k : K) (a : A) (r q : R) (s u : E) → L k a r s → L k a q u → f r ≡ f q
-
--- and the words that E, all parameters as they are left, holds at a place
-abbrev pub Words : {K A R E : Type 0} → (K → A → R → E → Type 0) → {W : Type 0} → (E → W) → Type 0
-Words {K} {A} {R} {E} L words = (k : K) (a : A) (r q : R) (s u : E) → L k a r s → L k a q u → words s ≡ words u
-
-abbrev pub Both : {K A R E : Type 0} → (K → A → R → E → Type 0) → {W : Type 0} → (E → W) → Type 0
-Both {K} {A} {R} {E} L words = (k : K) (a : A) (r q : R) (s u : E) → L k a r s → L k a q u → (r ≡ q) × (words s ≡ words u)
-
--- the law: what equals one thing is one thing
-pub same : {A : Type 0} {x r q : A} → r ≡ x → q ≡ x → r ≡ q
-same e f = e ∙ sym f
+use Rattle.hbc_claims_law.specs.Law.{Seen, Words, Both, same}
 
 -- what a move is told by is the move
 one-move : (r q : Moved) → ofMoved r ≡ ofMoved q → r ≡ q
@@ -47,15 +33,15 @@ pub data Call : Type 0 where
   string_bytes : Call
 
 abbrev pub Determined : Call → Type 0
-Determined word_of = One of-word-of.Learnt (λ r. r)
-Determined field_of = One of-field-of.Learnt (λ r. r)
+Determined word_of = Seen of-word-of.Learnt (λ r. r)
+Determined field_of = Seen of-field-of.Learnt (λ r. r)
 Determined put_row = Words of-put-row.Learnt (λ s. now (s .0))
 Determined read_u32_table = Both of-read-u32-table.Learnt (λ s. now (s .1 .1 .1 .0))
 Determined read_pair_table = Both of-read-pair-table.Learnt (λ s. now (s .1 .1 .1 .0))
 Determined decode_strings = Both of-decode-strings.Learnt (λ s. now (s .1 .1 .1 .1 .1 .0))
-Determined string_span = One of-string-span.Learnt (λ r. r)
+Determined string_span = Seen of-string-span.Learnt (λ r. r)
 -- the bytes of the part
-Determined string_bytes = One of-string-bytes.Learnt (λ r. now r)
+Determined string_bytes = Seen of-string-bytes.Learnt (λ r. now r)
 
 pub determined : (c : Call) → Determined c
 determined word_of = λ k a r q s u. same

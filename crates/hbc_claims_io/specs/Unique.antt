@@ -1,5 +1,5 @@
 -- Each public call's contract, as the checker has it, leaves one answer: two outcomes that both meet it are equal.
-use mathlib.Core.Path.{_≡_, sym, _∙_}
+use mathlib.Core.Path.{_≡_}
 use denote.Ref.{now}
 use Rattle.hbc_bits.proofs.bits.Reads as of-bits
 use Rattle.hbc_io.proofs.first.Reads as of-first
@@ -27,14 +27,7 @@ use Rattle.hbc_io_text.proofs.read_cstring.Reads as of-read-cstring
 use Rattle.hbc_io_text.proofs.read_length_prefixed_string.Reads as of-read-length-prefixed-string
 use Rattle.hbc_io.proofs.Alone.{oneU8, oneU16, oneU32, oneU64, oneI8, oneI32, oneF64, oneSpan, oneMoved}
 use Rattle.hbc_io_leb.proofs.Alone.{oneUleb, oneSleb}
-
--- a contract L, of lifetimes, arguments, answer and what the call leaves: whoever meets it answers alike
-abbrev pub One : {K A R E : Type 0} → (K → A → R → E → Type 0) → Type 0
-One {K} {A} {R} {E} L = (k : K) (a : A) (r q : R) (s u : E) → L k a r s → L k a q u → r ≡ q
-
--- the law behind them all: what equals one thing is one thing
-pub same : {A : Type 0} {x r q : A} → r ≡ x → q ≡ x → r ≡ q
-same e f = e ∙ sym f
+use Rattle.hbc_claims_law.specs.Law.{One, same}
 
 pub data Call : Type 0 where
   bits : Call

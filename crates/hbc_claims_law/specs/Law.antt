@@ -1,0 +1,29 @@
+-- What uniqueness says of a call, whatever the call: two outcomes that both meet its contract are equal. A contract L is the checker's own, of the
+-- lifetimes K, the arguments A, the answer R, and all parameters E as the call leaves them.
+use mathlib.Core.Path.{_≡_, sym, _∙_}
+use mathlib.Core.List.{List, [], _∷_}
+
+-- one answer
+abbrev pub One : {K A R E : Type 0} → (K → A → R → E → Type 0) → Type 0
+One {K} {A} {R} {E} L = (k : K) (a : A) (r q : R) (s u : E) → L k a r s → L k a q u → r ≡ q
+
+-- one answer, seen through f: a part that is handed back, by its bytes
+abbrev pub Seen : {K A R E : Type 0} → (K → A → R → E → Type 0) → {T : Type 0} → (R → T) → Type 0
+Seen {K} {A} {R} {E} L f = (k : K) (a : A) (r q : R) (s u : E) → L k a r s → L k a q u → f r ≡ f q
+
+-- one value for the words that were lent at a place
+abbrev pub Words : {K A R E : Type 0} → (K → A → R → E → Type 0) → {W : Type 0} → (E → W) → Type 0
+Words {K} {A} {R} {E} L words = (k : K) (a : A) (r q : R) (s u : E) → L k a r s → L k a q u → words s ≡ words u
+
+-- both
+abbrev pub Both : {K A R E : Type 0} → (K → A → R → E → Type 0) → {W : Type 0} → (E → W) → Type 0
+Both {K} {A} {R} {E} L words = (k : K) (a : A) (r q : R) (s u : E) → L k a r s → L k a q u → (r ≡ q) × (words s ≡ words u)
+
+-- the law behind them all: what equals one thing is one thing
+pub same : {A : Type 0} {x r q : A} → r ≡ x → q ≡ x → r ≡ q
+same e f = e ∙ sym f
+
+-- all of a list of statements
+abbrev pub All : List {1} (Type 0) → Type 0
+All [] = Unit {0}
+All (p ∷ ps) = p × All ps
