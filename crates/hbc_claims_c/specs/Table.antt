@@ -1,15 +1,10 @@
 -- The exported calls on string tables: each contract, as the checker has it, leaves one answer, and one value for every lent number and word.
-use mathlib.Core.Path.{_≡_}
 use denote.Ref.{now}
-use Rattle.hbc_claims_law.specs.Law.{same}
+use Rattle.hbc_claims_law.specs.Law.{Part, same}
 use Rattle.hbc_c.proofs.table.hbc_read_u32_table.Reads as of-read-u32-table
 use Rattle.hbc_c.proofs.table.hbc_read_pair_table.Reads as of-read-pair-table
 use Rattle.hbc_c.proofs.table.hbc_decode_strings.Reads as of-decode-strings
 use Rattle.hbc_c.proofs.table.hbc_string_bytes.Reads as of-string-bytes
-
--- what f takes of the answer and of all parameters as they are left is one
-abbrev pub One : {K A R E : Type 0} → (K → A → R → E → Type 0) → {T : Type 0} → (R → E → T) → Type 0
-One {K} {A} {R} {E} L f = (k : K) (a : A) (r q : R) (s u : E) → L k a r s → L k a q u → f r s ≡ f q u
 
 pub data Call : Type 0 where
   hbc_read_u32_table : Call
@@ -20,11 +15,11 @@ pub data Call : Type 0 where
 -- the answer, then each lent number or table
 abbrev pub Determined : Call → Type 0
 Determined hbc_read_u32_table =
-    One of-read-u32-table.Learnt (λ r s. r) × One of-read-u32-table.Learnt (λ r s. now (s .1 .0)) × One of-read-u32-table.Learnt (λ r s. now (s .1 .1 .1 .0))
+    Part of-read-u32-table.Learnt (λ r s. r) × Part of-read-u32-table.Learnt (λ r s. now (s .1 .0)) × Part of-read-u32-table.Learnt (λ r s. now (s .1 .1 .1 .0))
 Determined hbc_read_pair_table =
-    One of-read-pair-table.Learnt (λ r s. r) × One of-read-pair-table.Learnt (λ r s. now (s .1 .0)) × One of-read-pair-table.Learnt (λ r s. now (s .1 .1 .1 .0))
-Determined hbc_decode_strings = One of-decode-strings.Learnt (λ r s. r) × One of-decode-strings.Learnt (λ r s. now (s .1 .1 .1 .1 .1 .0))
-Determined hbc_string_bytes = One of-string-bytes.Learnt (λ r s. now (s .1 .1 .1 .0)) × One of-string-bytes.Learnt (λ r s. now (s .1 .1 .1 .1 .0))
+    Part of-read-pair-table.Learnt (λ r s. r) × Part of-read-pair-table.Learnt (λ r s. now (s .1 .0)) × Part of-read-pair-table.Learnt (λ r s. now (s .1 .1 .1 .0))
+Determined hbc_decode_strings = Part of-decode-strings.Learnt (λ r s. r) × Part of-decode-strings.Learnt (λ r s. now (s .1 .1 .1 .1 .1 .0))
+Determined hbc_string_bytes = Part of-string-bytes.Learnt (λ r s. now (s .1 .1 .1 .0)) × Part of-string-bytes.Learnt (λ r s. now (s .1 .1 .1 .1 .0))
 
 pub determined : (c : Call) → Determined c
 determined hbc_read_u32_table =

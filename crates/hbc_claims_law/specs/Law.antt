@@ -19,6 +19,10 @@ Words {K} {A} {R} {E} L words = (k : K) (a : A) (r q : R) (s u : E) → L k a r 
 abbrev pub Both : {K A R E : Type 0} → (K → A → R → E → Type 0) → {W : Type 0} → (E → W) → Type 0
 Both {K} {A} {R} {E} L words = (k : K) (a : A) (r q : R) (s u : E) → L k a r s → L k a q u → (r ≡ q) × (words s ≡ words u)
 
+-- one value for whatever f takes of the answer and of what is left
+abbrev pub Part : {K A R E : Type 0} → (K → A → R → E → Type 0) → {T : Type 0} → (R → E → T) → Type 0
+Part {K} {A} {R} {E} L f = (k : K) (a : A) (r q : R) (s u : E) → L k a r s → L k a q u → f r s ≡ f q u
+
 -- the law behind them all: what equals one thing is one thing
 pub same : {A : Type 0} {x r q : A} → r ≡ x → q ≡ x → r ≡ q
 same e f = e ∙ sym f
