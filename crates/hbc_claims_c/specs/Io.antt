@@ -1,6 +1,11 @@
--- The exported calls of the cursor layer: each contract, as the checker has it, leaves one answer, and one value for every lent number and word.
+-- The exported calls of the cursor layer: each contract, as the checker has it, leaves one answer, and one value for every lent number.
+use mathlib.Core.Path.{_≡_}
 use denote.Ref.{now}
-use Rattle.hbc_claims_law.specs.Law.{One, Part, same}
+use Prim.Native.Nat.{ℕ}
+use Rattle.hbc_io.specs.Outcome.{Outcome}
+use Rattle.hbc_io.specs.declared.Span.{Span}
+use Rattle.hbc_c.specs.Io.{Moves, Told, ToldSpan}
+use Rattle.hbc_claims_law.specs.Law.{One, same}
 use Rattle.hbc_c.proofs.io.hbc_bits.Reads as of-bits
 use Rattle.hbc_c.proofs.io.hbc_remaining.Reads as of-remaining
 use Rattle.hbc_c.proofs.io.hbc_seek.Reads as of-seek
@@ -17,6 +22,28 @@ use Rattle.hbc_c.proofs.io.hbc_read_sleb128.Reads as of-read-sleb128
 use Rattle.hbc_c.proofs.io.hbc_read_bytes.Reads as of-read-bytes
 use Rattle.hbc_c.proofs.io.hbc_read_cstring.Reads as of-read-cstring
 use Rattle.hbc_c.proofs.io.hbc_read_length_prefixed_string.Reads as of-read-length-prefixed-string
+
+-- one answer and one cursor; and one value; and one span, as two numbers. Where a call's lent numbers stand among its parameters is said at each
+abbrev pub Moving : {K A E : Type 0} → (K → A → ℕ → E → Type 0) → (E → ℕ) → Type 0
+Moving {K} {A} {E} L at = (k : K) (a : A) (r q : ℕ) (s u : E) → L k a r s → L k a q u → (r ≡ q) × (at s ≡ at u)
+
+abbrev pub Reading : {K A E W : Type 0} → (K → A → ℕ → E → Type 0) → (E → ℕ) → (E → W) → Type 0
+Reading {K} {A} {E} L at value = (k : K) (a : A) (r q : ℕ) (s u : E) → L k a r s → L k a q u → (r ≡ q) × (at s ≡ at u) × (value s ≡ value u)
+
+abbrev pub Spanning : {K A E : Type 0} → (K → A → ℕ → E → Type 0) → (E → ℕ) → (E → ℕ) → (E → ℕ) → Type 0
+Spanning {K} {A} {E} L at start len =
+    (k : K) (a : A) (r q : ℕ) (s u : E) → L k a r s → L k a q u → (r ≡ q) × (at s ≡ at u) × (start s ≡ start u) × (len s ≡ len u)
+
+module _ {A : Type 0} {o : Outcome A} {r q at at′ : ℕ} where
+  moves-one : Moves o r at → Moves o q at′ → (r ≡ q) × (at ≡ at′)
+  moves-one e f = (same (e .says) (f .says), same (e .moves) (f .moves))
+
+  told-one : {before v w : A} → Told o before r at v → Told o before q at′ w → (r ≡ q) × (at ≡ at′) × (v ≡ w)
+  told-one e f = let m = moves-one (e .tells) (f .tells) in (m .0, m .1, same (e .leaves) (f .leaves))
+
+span-one : {o : Outcome Span} {start₀ len₀ r q at at′ start start′ len len′ : ℕ} → ToldSpan o start₀ len₀ r at start len → ToldSpan o start₀ len₀ q at′ start′ len′
+    → (r ≡ q) × (at ≡ at′) × (start ≡ start′) × (len ≡ len′)
+span-one e f = let m = moves-one (e .tells) (f .tells) in (m .0, m .1, same (e .starts) (f .starts), same (e .counts) (f .counts))
 
 pub data Call : Type 0 where
   hbc_bits : Call
@@ -36,139 +63,38 @@ pub data Call : Type 0 where
   hbc_read_cstring : Call
   hbc_read_length_prefixed_string : Call
 
--- the answer, then each lent number or table
 abbrev pub Determined : Call → Type 0
 Determined hbc_bits = One of-bits.Learnt
 Determined hbc_remaining = One of-remaining.Learnt
-Determined hbc_seek =
-    Part of-seek.Learnt (λ r s. r)
-    × Part of-seek.Learnt (λ r s. now (s .1 .0))
-Determined hbc_align =
-    Part of-align.Learnt (λ r s. r)
-    × Part of-align.Learnt (λ r s. now (s .1 .0))
-Determined hbc_read_u8 =
-    Part of-read-u8.Learnt (λ r s. r)
-    × Part of-read-u8.Learnt (λ r s. now (s .1 .0))
-    × Part of-read-u8.Learnt (λ r s. now (s .1 .1 .0))
-Determined hbc_read_u16 =
-    Part of-read-u16.Learnt (λ r s. r)
-    × Part of-read-u16.Learnt (λ r s. now (s .1 .0))
-    × Part of-read-u16.Learnt (λ r s. now (s .1 .1 .0))
-Determined hbc_read_u32 =
-    Part of-read-u32.Learnt (λ r s. r)
-    × Part of-read-u32.Learnt (λ r s. now (s .1 .0))
-    × Part of-read-u32.Learnt (λ r s. now (s .1 .1 .0))
-Determined hbc_read_u64 =
-    Part of-read-u64.Learnt (λ r s. r)
-    × Part of-read-u64.Learnt (λ r s. now (s .1 .0))
-    × Part of-read-u64.Learnt (λ r s. now (s .1 .1 .0))
-Determined hbc_read_i8 =
-    Part of-read-i8.Learnt (λ r s. r)
-    × Part of-read-i8.Learnt (λ r s. now (s .1 .0))
-    × Part of-read-i8.Learnt (λ r s. now (s .1 .1 .0))
-Determined hbc_read_i32 =
-    Part of-read-i32.Learnt (λ r s. r)
-    × Part of-read-i32.Learnt (λ r s. now (s .1 .0))
-    × Part of-read-i32.Learnt (λ r s. now (s .1 .1 .0))
-Determined hbc_read_f64 =
-    Part of-read-f64.Learnt (λ r s. r)
-    × Part of-read-f64.Learnt (λ r s. now (s .1 .0))
-    × Part of-read-f64.Learnt (λ r s. now (s .1 .1 .0))
-Determined hbc_read_uleb128 =
-    Part of-read-uleb128.Learnt (λ r s. r)
-    × Part of-read-uleb128.Learnt (λ r s. now (s .1 .0))
-    × Part of-read-uleb128.Learnt (λ r s. now (s .1 .1 .0))
-Determined hbc_read_sleb128 =
-    Part of-read-sleb128.Learnt (λ r s. r)
-    × Part of-read-sleb128.Learnt (λ r s. now (s .1 .0))
-    × Part of-read-sleb128.Learnt (λ r s. now (s .1 .1 .0))
-Determined hbc_read_bytes =
-    Part of-read-bytes.Learnt (λ r s. r)
-    × Part of-read-bytes.Learnt (λ r s. now (s .1 .0))
-    × Part of-read-bytes.Learnt (λ r s. now (s .1 .1 .1 .0))
-    × Part of-read-bytes.Learnt (λ r s. now (s .1 .1 .1 .1 .0))
-Determined hbc_read_cstring =
-    Part of-read-cstring.Learnt (λ r s. r)
-    × Part of-read-cstring.Learnt (λ r s. now (s .1 .0))
-    × Part of-read-cstring.Learnt (λ r s. now (s .1 .1 .0))
-    × Part of-read-cstring.Learnt (λ r s. now (s .1 .1 .1 .0))
-Determined hbc_read_length_prefixed_string =
-    Part of-read-length-prefixed-string.Learnt (λ r s. r)
-    × Part of-read-length-prefixed-string.Learnt (λ r s. now (s .1 .0))
-    × Part of-read-length-prefixed-string.Learnt (λ r s. now (s .1 .1 .0))
-    × Part of-read-length-prefixed-string.Learnt (λ r s. now (s .1 .1 .1 .0))
+Determined hbc_seek = Moving of-seek.Learnt (λ s. now (s .1 .0))
+Determined hbc_align = Moving of-align.Learnt (λ s. now (s .1 .0))
+Determined hbc_read_u8 = Reading of-read-u8.Learnt (λ s. now (s .1 .0)) (λ s. now (s .1 .1 .0))
+Determined hbc_read_u16 = Reading of-read-u16.Learnt (λ s. now (s .1 .0)) (λ s. now (s .1 .1 .0))
+Determined hbc_read_u32 = Reading of-read-u32.Learnt (λ s. now (s .1 .0)) (λ s. now (s .1 .1 .0))
+Determined hbc_read_u64 = Reading of-read-u64.Learnt (λ s. now (s .1 .0)) (λ s. now (s .1 .1 .0))
+Determined hbc_read_i8 = Reading of-read-i8.Learnt (λ s. now (s .1 .0)) (λ s. now (s .1 .1 .0))
+Determined hbc_read_i32 = Reading of-read-i32.Learnt (λ s. now (s .1 .0)) (λ s. now (s .1 .1 .0))
+Determined hbc_read_f64 = Reading of-read-f64.Learnt (λ s. now (s .1 .0)) (λ s. now (s .1 .1 .0))
+Determined hbc_read_uleb128 = Reading of-read-uleb128.Learnt (λ s. now (s .1 .0)) (λ s. now (s .1 .1 .0))
+Determined hbc_read_sleb128 = Reading of-read-sleb128.Learnt (λ s. now (s .1 .0)) (λ s. now (s .1 .1 .0))
+Determined hbc_read_bytes = Spanning of-read-bytes.Learnt (λ s. now (s .1 .0)) (λ s. now (s .1 .1 .1 .0)) (λ s. now (s .1 .1 .1 .1 .0))
+Determined hbc_read_cstring = Spanning of-read-cstring.Learnt (λ s. now (s .1 .0)) (λ s. now (s .1 .1 .0)) (λ s. now (s .1 .1 .1 .0))
+Determined hbc_read_length_prefixed_string = Spanning of-read-length-prefixed-string.Learnt (λ s. now (s .1 .0)) (λ s. now (s .1 .1 .0)) (λ s. now (s .1 .1 .1 .0))
 
 pub determined : (c : Call) → Determined c
 determined hbc_bits = λ k a r q s u. same
 determined hbc_remaining = λ k a r q s u. same
-determined hbc_seek = (
-  λ k a r q s u e f. same (e .says) (f .says),
-  λ k a r q s u e f. same (e .moves) (f .moves),
-)
-determined hbc_align = (
-  λ k a r q s u e f. same (e .says) (f .says),
-  λ k a r q s u e f. same (e .moves) (f .moves),
-)
-determined hbc_read_u8 = (
-  λ k a r q s u e f. same (e .tells .says) (f .tells .says),
-  λ k a r q s u e f. same (e .tells .moves) (f .tells .moves),
-  λ k a r q s u e f. same (e .leaves) (f .leaves),
-)
-determined hbc_read_u16 = (
-  λ k a r q s u e f. same (e .tells .says) (f .tells .says),
-  λ k a r q s u e f. same (e .tells .moves) (f .tells .moves),
-  λ k a r q s u e f. same (e .leaves) (f .leaves),
-)
-determined hbc_read_u32 = (
-  λ k a r q s u e f. same (e .tells .says) (f .tells .says),
-  λ k a r q s u e f. same (e .tells .moves) (f .tells .moves),
-  λ k a r q s u e f. same (e .leaves) (f .leaves),
-)
-determined hbc_read_u64 = (
-  λ k a r q s u e f. same (e .tells .says) (f .tells .says),
-  λ k a r q s u e f. same (e .tells .moves) (f .tells .moves),
-  λ k a r q s u e f. same (e .leaves) (f .leaves),
-)
-determined hbc_read_i8 = (
-  λ k a r q s u e f. same (e .tells .says) (f .tells .says),
-  λ k a r q s u e f. same (e .tells .moves) (f .tells .moves),
-  λ k a r q s u e f. same (e .leaves) (f .leaves),
-)
-determined hbc_read_i32 = (
-  λ k a r q s u e f. same (e .tells .says) (f .tells .says),
-  λ k a r q s u e f. same (e .tells .moves) (f .tells .moves),
-  λ k a r q s u e f. same (e .leaves) (f .leaves),
-)
-determined hbc_read_f64 = (
-  λ k a r q s u e f. same (e .tells .says) (f .tells .says),
-  λ k a r q s u e f. same (e .tells .moves) (f .tells .moves),
-  λ k a r q s u e f. same (e .leaves) (f .leaves),
-)
-determined hbc_read_uleb128 = (
-  λ k a r q s u e f. same (e .tells .says) (f .tells .says),
-  λ k a r q s u e f. same (e .tells .moves) (f .tells .moves),
-  λ k a r q s u e f. same (e .leaves) (f .leaves),
-)
-determined hbc_read_sleb128 = (
-  λ k a r q s u e f. same (e .tells .says) (f .tells .says),
-  λ k a r q s u e f. same (e .tells .moves) (f .tells .moves),
-  λ k a r q s u e f. same (e .leaves) (f .leaves),
-)
-determined hbc_read_bytes = (
-  λ k a r q s u e f. same (e .tells .says) (f .tells .says),
-  λ k a r q s u e f. same (e .tells .moves) (f .tells .moves),
-  λ k a r q s u e f. same (e .starts) (f .starts),
-  λ k a r q s u e f. same (e .counts) (f .counts),
-)
-determined hbc_read_cstring = (
-  λ k a r q s u e f. same (e .tells .says) (f .tells .says),
-  λ k a r q s u e f. same (e .tells .moves) (f .tells .moves),
-  λ k a r q s u e f. same (e .starts) (f .starts),
-  λ k a r q s u e f. same (e .counts) (f .counts),
-)
-determined hbc_read_length_prefixed_string = (
-  λ k a r q s u e f. same (e .tells .says) (f .tells .says),
-  λ k a r q s u e f. same (e .tells .moves) (f .tells .moves),
-  λ k a r q s u e f. same (e .starts) (f .starts),
-  λ k a r q s u e f. same (e .counts) (f .counts),
-)
+determined hbc_seek = λ k a r q s u. moves-one
+determined hbc_align = λ k a r q s u. moves-one
+determined hbc_read_u8 = λ k a r q s u. told-one
+determined hbc_read_u16 = λ k a r q s u. told-one
+determined hbc_read_u32 = λ k a r q s u. told-one
+determined hbc_read_u64 = λ k a r q s u. told-one
+determined hbc_read_i8 = λ k a r q s u. told-one
+determined hbc_read_i32 = λ k a r q s u. told-one
+determined hbc_read_f64 = λ k a r q s u. told-one
+determined hbc_read_uleb128 = λ k a r q s u. told-one
+determined hbc_read_sleb128 = λ k a r q s u. told-one
+determined hbc_read_bytes = λ k a r q s u. span-one
+determined hbc_read_cstring = λ k a r q s u. span-one
+determined hbc_read_length_prefixed_string = λ k a r q s u. span-one
