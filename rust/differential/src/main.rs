@@ -4,18 +4,28 @@
 use std::process::ExitCode;
 
 #[cfg(all(published, archive))]
+mod function;
+#[cfg(all(published, archive))]
 mod io;
 #[cfg(all(published, archive))]
 mod run;
 
 #[cfg(all(published, archive))]
 fn main() -> ExitCode {
-    run::main(&[run::Layer {
-        name: "io",
-        compare: io::compare,
-        record: io::record::write,
-        replay: io::replay,
-    }])
+    run::main(&[
+        run::Layer {
+            name: "io",
+            compare: io::compare,
+            record: io::record::write,
+            replay: io::replay,
+        },
+        run::Layer {
+            name: "function",
+            compare: function::compare,
+            record: function::record::write,
+            replay: function::replay,
+        },
+    ])
 }
 
 #[cfg(all(published, not(archive)))]

@@ -6,12 +6,13 @@ use std::time::{Duration, Instant};
 
 use harness::{count, Random};
 
-const USAGE: &str = "usage: differential [--seconds N] [--seed S] [LAYER..]
+const USAGE: &str = "usage: differential [--seconds N] [--seed S] [--full] [LAYER..]
        differential [--seed S] --record FILE [LAYER]
        differential --replay LAYER WORD..
 Compares every layer, or those named. Fixed inputs are always compared whole; random ones until N seconds have
-passed in all (default 20). --record writes a sample of the Rust's answers, as the LAYER_vectors program reads it;
-the layer is io if none is named. --replay compares one input, in the words that a difference prints.";
+passed in all (default 20); --full adds the groups that take long. --record writes a sample of the Rust's answers, as
+the LAYER_vectors program reads it; the layer is io if none is named. --replay compares one input, in the words that a
+difference prints.";
 
 pub struct Layer {
     pub name: &'static str,
@@ -28,6 +29,8 @@ pub struct Difference(pub Vec<String>);
 pub struct Run {
     layer: &'static str,
     seed: u64,
+    /// Whether groups that take long are asked for.
+    pub full: bool,
     until: Instant,
     cases: u64,
     total: u64,
@@ -53,7 +56,7 @@ impl Run {
             return Err(Difference(lines));
         }
         println!(
-            "{:<6} {name:<44} {:>14} cases  0 differences  {:>6.2} s",
+            "{:<8} {name:<44} {:>14} cases  0 differences  {:>6.2} s",
             self.layer,
             count(self.cases),
             begin.elapsed().as_secs_f64()
@@ -82,6 +85,7 @@ impl Run {
 struct Asked {
     seconds: f64,
     seed: u64,
+    full: bool,
     record: Option<String>,
     replay: bool,
     words: Vec<String>,
@@ -91,6 +95,7 @@ fn asked() -> Result<Asked, String> {
     let mut asked = Asked {
         seconds: 20.0,
         seed: 1,
+        full: false,
         record: None,
         replay: false,
         words: Vec::new(),
@@ -101,6 +106,7 @@ fn asked() -> Result<Asked, String> {
         match word.as_str() {
             "--seconds" => asked.seconds = number(&next()?)?,
             "--seed" => asked.seed = number(&next()?)?,
+            "--full" => asked.full = true,
             "--record" => asked.record = Some(next()?),
             "--replay" => asked.replay = true,
             _ if word.starts_with("--") => return Err(format!("no option {word}")),
@@ -145,17 +151,19 @@ pub fn main(layers: &[Layer]) -> ExitCode {
         [] => layers.iter().collect(),
         words => words.iter().filter_map(find).collect(),
     };
-    compare(&chosen, asked.seconds, asked.seed)
+    compare(&chosen, &asked)
 }
 
-fn compare(layers: &[&Layer], seconds: f64, seed: u64) -> ExitCode {
+fn compare(layers: &[&Layer], asked: &Asked) -> ExitCode {
+    let seed = asked.seed;
     let begin = Instant::now();
     let mut total = 0;
     for (i, layer) in layers.iter().enumerate() {
-        let share = seconds.max(0.0) * (i + 1) as f64 / layers.len() as f64;
+        let share = asked.seconds.max(0.0) * (i + 1) as f64 / layers.len() as f64;
         let mut run = Run {
             layer: layer.name,
             seed,
+            full: asked.full,
             until: begin + Duration::from_secs_f64(share),
             cases: 0,
             total: 0,
