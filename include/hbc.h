@@ -26,6 +26,7 @@
 #ifndef HBC_H
 #define HBC_H
 
+#include <stdbool.h>
 #include <stddef.h>
 #include <stdint.h>
 
@@ -138,6 +139,43 @@ uint64_t hbc_read_function(const uint8_t *file, size_t file_len, uint32_t layout
  * Refused 12 only. */
 uint64_t hbc_function_meets(const uint8_t *file, size_t file_len, uint32_t layout, size_t start, uint32_t id,
                             size_t low, size_t high);
+
+/* ---- Handlers and trailing sections ---- */
+
+/* The exception handlers of functions 0 to count - 1. `functions` holds rows as hbc_read_functions writes them, row i
+ * for function i; only info_offset and flags are read, and may be any numbers. `rows` gets four words a handler,
+ * functions rising:
+ *
+ *   function, start, end, target
+ *
+ * A function has none if bit 3 of its flags is clear, if info_offset is 0 or at or past the end, if its place rounded
+ * up to 4 leaves no 4 bytes, if the count there is 0 or above 1000, or if one of its handlers is cut.
+ * Accepted, the answer is 0, and `*total` the number of rows; words past them stay.
+ * Refused 1; 11 if fewer than `count` function rows are lent; 4 if there are more handlers than rows of four words. */
+uint64_t hbc_read_handlers(const uint8_t *file, size_t file_len, const uint32_t *functions, size_t functions_len,
+                           uint32_t count, uint32_t *rows, size_t rows_len, size_t *total);
+
+/* The rows of hbc_trailing_sections. */
+#define HBC_REGEXP_TABLE 0
+#define HBC_REGEXP_STORAGE 1
+#define HBC_CJS_PAIRS 2
+#define HBC_FUNCTION_SOURCES 3
+#define HBC_BYTECODE 4
+#define HBC_SECTIONS 5
+
+/* Finds the sections from byte `start` on: regexp table (8 bytes an entry), regexp storage, CJS pairs (8), function
+ * sources (8) if `given`, each padded to 4 in the file; then bytecode to the end. `rows` gets HBC_SECTIONS rows of four
+ * words:
+ *
+ *   start, size with padding, entries (0 for storage and bytecode), and 1 if absent, else 0
+ *
+ * Function sources that are not given are absent, with 0 in the other words; `sources` is then not looked at. The
+ * entries are read by hbc_read_pair_table, at a section's start and with its entries as the count.
+ * Accepted, the answer is HBC_SECTIONS; words past the rows stay.
+ * Refused 1; 2 if `start` is past the end; 4 if fewer than HBC_SECTIONS rows are lent; then, section by section, 3 if
+ * its bytes and 2 if its padding goes past the end. */
+uint64_t hbc_trailing_sections(const uint8_t *file, size_t file_len, size_t start, uint32_t regexps, uint32_t storage,
+                               uint32_t cjs, bool given, uint32_t sources, uint32_t *rows, size_t rows_len);
 
 #ifdef __cplusplus
 }

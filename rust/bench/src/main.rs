@@ -3,13 +3,17 @@
 use std::process::ExitCode;
 
 #[cfg(all(published, archive))]
+mod function;
+#[cfg(all(published, archive))]
 mod io;
 #[cfg(all(published, archive))]
 mod table;
+#[cfg(all(published, archive))]
+mod whole;
 
 #[cfg(all(published, archive))]
 fn main() -> ExitCode {
-    table::main(&[("io", io::rows)])
+    table::main(&[("io", io::rows), ("function", function::rows)])
 }
 
 #[cfg(not(all(published, archive)))]

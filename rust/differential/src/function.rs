@@ -1,7 +1,6 @@
 //! The function tables: function.rs of the published Rust beside the calls on function headers of libhbc_c.a.
 
 mod groups;
-pub mod record;
 
 pub use groups::compare;
 
@@ -11,16 +10,16 @@ use published::file::parser::function::parse_function_headers;
 use published::format::{empty_header, FunctionHeader, FunctionHeaderLayout, FLAG_OVERFLOWED};
 use published::io::ByteReader;
 
-use crate::io::{hex, unhex, LIMIT};
+use crate::io::LIMIT;
 use crate::run::{number as parsed, Difference};
+use crate::words::{
+    self, bytes_word, first_wrong, said, table_word, word_bytes, word_table, Refusal,
+};
 
 /// The words of a row.
 pub const ROW: usize = 16;
 
 pub type Row = [u32; ROW];
-
-/// A refusal's number and place.
-pub type Refusal = (u32, u32);
 
 #[derive(Clone, Copy, PartialEq, Eq, Debug)]
 pub enum Op {
@@ -122,9 +121,6 @@ pub struct Answer {
     pub table: Vec<u32>,
 }
 
-/// What stands behind the words lent: it is not lent, and stays.
-const BEHIND: [u32; ROW] = [0xB5B5_B5B5; ROW];
-
 /// What libhbc_c.a answers, or what is wrong with it whatever the Rust says.
 fn ours(case: &Case) -> Result<Answer, String> {
     let Case {
@@ -137,25 +133,16 @@ fn ours(case: &Case) -> Result<Answer, String> {
         ..
     } = *case;
     let (bytes, len) = (file.as_ptr(), file.len());
-    let words = case.table.len();
-    let mut table = Vec::with_capacity(words + ROW);
-    table.extend(case.table);
-    table.extend(BEHIND);
-    let lent = table.as_mut_ptr();
-    let code = unsafe {
+    let (code, table) = words::lend(case.table, |table, words| unsafe {
         match case.op {
-            Read => hbc_read_functions(bytes, len, layout, start, count, lent, words),
+            Read => hbc_read_functions(bytes, len, layout, start, count, table, words),
             Refresh => {
-                hbc_refresh_functions(bytes, len, layout, start, count, low, high, lent, words)
+                hbc_refresh_functions(bytes, len, layout, start, count, low, high, table, words)
             }
-            One => hbc_read_function(bytes, len, layout, start, count, lent, words),
+            One => hbc_read_function(bytes, len, layout, start, count, table, words),
             Meets => hbc_function_meets(bytes, len, layout, start, count, low, high),
         }
-    };
-    if table[words..] != BEHIND {
-        return Err("words behind the lent ones were written".to_string());
-    }
-    table.truncate(words);
+    })?;
     Ok(Answer { code, table })
 }
 
@@ -296,10 +283,7 @@ fn right(case: &Case, table: &mut [u32]) -> Result<u32, Refusal> {
 
 fn expected(case: &Case) -> Answer {
     let mut table = case.table.to_vec();
-    let code = match right(case, &mut table) {
-        Ok(rows) => rows.into(),
-        Err((number, place)) => u64::from(number) << 32 | u64::from(place),
-    };
+    let code = words::code(right(case, &mut table));
     Answer { code, table }
 }
 
@@ -318,15 +302,15 @@ impl Case<'_> {
     pub fn compare_fresh(&self) -> Result<Answer, Difference> {
         let given = self.compare()?;
         let layout = LAYOUTS[self.layout as usize];
-        let (refusal, table) = match fresh(self.file, layout, self.start, self.count) {
+        let (answer, table) = match fresh(self.file, layout, self.start, self.count) {
             Ok(rows) => {
                 let mut table = rows.concat();
                 table.extend(&self.table[table.len()..]);
-                ((0, place(given.code)), table)
+                (Ok(place(given.code)), table)
             }
-            Err(refusal) => (refusal, self.table.to_vec()),
+            Err(refusal) => (Err(refusal), self.table.to_vec()),
         };
-        let code = u64::from(refusal.0) << 32 | u64::from(refusal.1);
+        let code = words::code(answer);
         let fresh = Answer { code, table };
         if given != fresh {
             let given = format!("as a fresh read: {}", given.words(Some(&fresh)));
@@ -356,49 +340,26 @@ impl Case<'_> {
             format!("libhbc_c  {given}"),
         ];
         if file.len() <= 4096 && table.len() <= 1024 {
-            let bytes: Vec<u8> = table.iter().flat_map(|word| word.to_le_bytes()).collect();
             lines.push(format!(
                 "replay    --replay function {op:?} {layout} {start} {count} {low} {high} {} {}",
-                hex_word(file),
-                hex_word(&bytes)
+                bytes_word(file),
+                table_word(table)
             ));
         }
         Difference(lines)
     }
 }
 
-/// Bytes as one word, also where there are none.
-fn hex_word(bytes: &[u8]) -> String {
-    match bytes {
-        [] => "-".to_string(),
-        _ => hex(bytes),
-    }
-}
-
 impl Answer {
     /// The answer, and the first word that differs from another's.
     fn words(&self, other: Option<&Answer>) -> String {
-        let answer = match (number(self.code), place(self.code)) {
-            (0, n) => format!("accepted, {n}"),
-            (number, place) => format!("refused {number} at {place}"),
-        };
-        let differs = |other: &Answer| {
-            let mut pairs = self.table.iter().zip(&other.table);
-            let i = pairs.position(|(mine, theirs)| mine != theirs)?;
-            let (mine, theirs) = (self.table[i], other.table[i]);
-            let (row, word) = (i / ROW, i % ROW);
-            Some(format!(", row {row} word {word} is {mine}, not {theirs}"))
-        };
-        answer + &other.and_then(differs).unwrap_or_default()
+        let wrong = other.map(|other| first_wrong(&self.table, &other.table, ROW));
+        said(self.code) + &wrong.unwrap_or_default()
     }
 }
 
 /// `OP LAYOUT START COUNT LOW HIGH FILE TABLE`, as a difference prints them.
 pub fn replay(words: &[String]) -> Result<String, Difference> {
-    let bytes = |word: &String| match word.as_str() {
-        "-" => Ok(Vec::new()),
-        word => unhex(word),
-    };
     let read = || -> Result<String, String> {
         let [op, layout, start, count, low, high, file, table] = words else {
             return Err(
@@ -407,13 +368,10 @@ pub fn replay(words: &[String]) -> Result<String, Difference> {
             );
         };
         let op = OPS.into_iter().find(|known| format!("{known:?}") == *op);
-        let table: Vec<u32> = bytes(table)?
-            .chunks_exact(4)
-            .map(|word| u32::from_le_bytes(word.try_into().unwrap()))
-            .collect();
+        let table = word_table(table)?;
         let case = Case {
             op: op.ok_or(format!("one of {OPS:?} is needed"))?,
-            file: &bytes(file)?,
+            file: &word_bytes(file)?,
             layout: parsed(layout)?,
             start: parsed(start)?,
             count: parsed(count)?,

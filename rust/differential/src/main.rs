@@ -8,22 +8,33 @@ mod function;
 #[cfg(all(published, archive))]
 mod io;
 #[cfg(all(published, archive))]
+mod parsing;
+#[cfg(all(published, archive))]
 mod run;
+#[cfg(all(published, archive))]
+mod words;
 
 #[cfg(all(published, archive))]
 fn main() -> ExitCode {
+    use run::Layer;
     run::main(&[
-        run::Layer {
+        Layer {
             name: "io",
             compare: io::compare,
-            record: io::record::write,
+            record: Some(io::record::write),
             replay: io::replay,
         },
-        run::Layer {
+        Layer {
             name: "function",
             compare: function::compare,
-            record: function::record::write,
+            record: None,
             replay: function::replay,
+        },
+        Layer {
+            name: "parsing",
+            compare: parsing::compare,
+            record: None,
+            replay: parsing::replay,
         },
     ])
 }

@@ -10,15 +10,15 @@ const USAGE: &str = "usage: differential [--seconds N] [--seed S] [--full] [LAYE
        differential [--seed S] --record FILE [LAYER]
        differential --replay LAYER WORD..
 Compares every layer, or those named. Fixed inputs are always compared whole; random ones until N seconds have
-passed in all (default 20); --full adds the groups that take long. --record writes a sample of the Rust's answers, as
-the LAYER_vectors program reads it; the layer is io if none is named. --replay compares one input, in the words that a
-difference prints.";
+passed in all (default 20). --full adds inputs that need some 8 GB of memory and a minute. --record writes a sample
+of the Rust's answers, as the LAYER_vectors program reads it; the layer is io if none is named. --replay compares one
+input, in the words that a difference prints.";
 
 pub struct Layer {
     pub name: &'static str,
     pub compare: fn(&mut Run) -> Result<(), Difference>,
-    /// The sample as bytes, and a line for each thing it covers.
-    pub record: fn(Random) -> (Vec<u8>, Vec<String>),
+    /// The sample as bytes, and a line for each thing it covers; none where no program reads one.
+    pub record: Option<fn(Random) -> (Vec<u8>, Vec<String>)>,
     /// Both answers in words, or a difference.
     pub replay: fn(&[String]) -> Result<String, Difference>,
 }
@@ -27,10 +27,10 @@ pub struct Layer {
 pub struct Difference(pub Vec<String>);
 
 pub struct Run {
+    /// Whether inputs of the greatest sizes are asked for.
+    pub full: bool,
     layer: &'static str,
     seed: u64,
-    /// Whether groups that take long are asked for.
-    pub full: bool,
     until: Instant,
     cases: u64,
     total: u64,
@@ -155,15 +155,15 @@ pub fn main(layers: &[Layer]) -> ExitCode {
 }
 
 fn compare(layers: &[&Layer], asked: &Asked) -> ExitCode {
-    let seed = asked.seed;
+    let (seconds, seed) = (asked.seconds, asked.seed);
     let begin = Instant::now();
     let mut total = 0;
     for (i, layer) in layers.iter().enumerate() {
-        let share = asked.seconds.max(0.0) * (i + 1) as f64 / layers.len() as f64;
+        let share = seconds.max(0.0) * (i + 1) as f64 / layers.len() as f64;
         let mut run = Run {
+            full: asked.full,
             layer: layer.name,
             seed,
-            full: asked.full,
             until: begin + Duration::from_secs_f64(share),
             cases: 0,
             total: 0,
@@ -187,7 +187,10 @@ fn report(Difference(lines): Difference) -> ExitCode {
 }
 
 fn record(layer: &Layer, seed: u64, file: &str) -> ExitCode {
-    let (bytes, lines) = (layer.record)(Random::new(seed));
+    let Some(sample) = layer.record else {
+        return bad_usage(format!("no sample of {} is recorded", layer.name));
+    };
+    let (bytes, lines) = sample(Random::new(seed));
     for line in lines {
         println!("{line}");
     }

@@ -6,6 +6,7 @@ use super::Op::*;
 use super::{fresh, Case, Layout, Op, LAYOUTS, OPS, ROW};
 use crate::io::LIMIT;
 use crate::run::{Difference, Run};
+use crate::words::{any_bytes as bytes, any_words as words};
 
 type Compared = Result<(), Difference>;
 
@@ -102,20 +103,6 @@ impl Table {
         }
         assert_eq!(self.place(id), Some(place));
     }
-}
-
-/// Random words, for a table that was never read.
-fn words(random: &mut Random, len: usize) -> Vec<u32> {
-    (0..len).map(|_| random.word() as u32).collect()
-}
-
-fn bytes(random: &mut Random, len: usize) -> Vec<u8> {
-    let mut bytes = Vec::with_capacity(len + 8);
-    while bytes.len() < len {
-        bytes.extend(random.word().to_le_bytes());
-    }
-    bytes.truncate(len);
-    bytes
 }
 
 fn case(run: &mut Run, case: Case) -> Compared {
