@@ -177,6 +177,24 @@ uint64_t hbc_read_handlers(const uint8_t *file, size_t file_len, const uint32_t 
 uint64_t hbc_trailing_sections(const uint8_t *file, size_t file_len, size_t start, uint32_t regexps, uint32_t storage,
                                uint32_t cjs, bool given, uint32_t sources, uint32_t *rows, size_t rows_len);
 
+/* ---- The debug section ---- */
+
+/* The debug section at byte `offset` of the file, as rows in four tables:
+ *
+ *   strings  2 words: start in the file, after the length prefix, and byte length
+ *   scopes   5 words: offset in the scope part, parent (4294967295 if none), flags, first name, name count
+ *   names    1 word: a string's number, 4294967295 if there is no such string; scopes name parts of this table
+ *   callees  2 words: address, string's number; addresses rise
+ *
+ * At `offset` 0, 2^32 - 1, or at or past the end there is no debug information: accepted, with no rows.
+ * Accepted, the answer is 0, and the four counts are those of the rows; words past them stay. Refused, the counts stay
+ * too.
+ * Refused 1; 3 if the header of 28 bytes is cut; 4 if one of the tables has too few rows, looked at last. */
+uint64_t hbc_read_debug(const uint8_t *file, size_t file_len, uint32_t offset, uint32_t *strings, size_t strings_len,
+                        uint32_t *scopes, size_t scopes_len, uint32_t *names, size_t names_len, uint32_t *callees,
+                        size_t callees_len, size_t *string_count, size_t *scope_count, size_t *name_count,
+                        size_t *callee_count);
+
 #ifdef __cplusplus
 }
 #endif

@@ -7,13 +7,19 @@ mod function;
 #[cfg(all(published, archive))]
 mod io;
 #[cfg(all(published, archive))]
+mod parsing;
+#[cfg(all(published, archive))]
 mod table;
 #[cfg(all(published, archive))]
 mod whole;
 
 #[cfg(all(published, archive))]
 fn main() -> ExitCode {
-    table::main(&[("io", io::rows), ("function", function::rows)])
+    table::main(&[
+        ("io", io::rows),
+        ("function", function::rows),
+        ("parsing", parsing::rows),
+    ])
 }
 
 #[cfg(not(all(published, archive)))]

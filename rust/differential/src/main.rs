@@ -4,6 +4,8 @@
 use std::process::ExitCode;
 
 #[cfg(all(published, archive))]
+mod debug;
+#[cfg(all(published, archive))]
 mod function;
 #[cfg(all(published, archive))]
 mod io;
@@ -35,6 +37,12 @@ fn main() -> ExitCode {
             compare: parsing::compare,
             record: None,
             replay: parsing::replay,
+        },
+        Layer {
+            name: "debug",
+            compare: debug::compare,
+            record: None,
+            replay: debug::replay,
         },
     ])
 }
