@@ -5,11 +5,15 @@ use std::process::ExitCode;
 #[cfg(all(published, archive))]
 mod io;
 #[cfg(all(published, archive))]
+mod strings;
+#[cfg(all(published, archive))]
 mod table;
+#[cfg(all(published, archive))]
+mod whole;
 
 #[cfg(all(published, archive))]
 fn main() -> ExitCode {
-    table::main(&[("io", io::rows)])
+    table::main(&[("io", io::rows), ("table", strings::rows)])
 }
 
 #[cfg(not(all(published, archive)))]

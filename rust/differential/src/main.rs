@@ -6,16 +6,29 @@ use std::process::ExitCode;
 #[cfg(all(published, archive))]
 mod io;
 #[cfg(all(published, archive))]
+mod lent;
+#[cfg(all(published, archive))]
 mod run;
+#[cfg(all(published, archive))]
+mod table;
 
 #[cfg(all(published, archive))]
 fn main() -> ExitCode {
-    run::main(&[run::Layer {
-        name: "io",
-        compare: io::compare,
-        record: io::record::write,
-        replay: io::replay,
-    }])
+    use run::Layer;
+    run::main(&[
+        Layer {
+            name: "io",
+            compare: io::compare,
+            record: Some(io::record::write),
+            replay: io::replay,
+        },
+        Layer {
+            name: "table",
+            compare: table::compare,
+            record: None,
+            replay: table::replay,
+        },
+    ])
 }
 
 #[cfg(all(published, not(archive)))]

@@ -34,4 +34,9 @@ extern "C" {
     pub fn hbc_read_bytes(s: *const u8, s_len: usize, at: *mut usize, len: usize, start: *mut usize, size: *mut usize) -> u64;
     pub fn hbc_read_cstring(s: *const u8, s_len: usize, at: *mut usize, start: *mut usize, size: *mut usize) -> u64;
     pub fn hbc_read_length_prefixed_string(s: *const u8, s_len: usize, at: *mut usize, start: *mut usize, size: *mut usize) -> u64;
+
+    pub fn hbc_read_u32_table(s: *const u8, s_len: usize, at: *mut usize, count: u32, table: *mut u32, table_len: usize) -> u64;
+    pub fn hbc_read_pair_table(s: *const u8, s_len: usize, at: *mut usize, count: u32, table: *mut u32, table_len: usize) -> u64;
+    pub fn hbc_decode_strings(count: u32, kinds: *const u32, kinds_len: usize, small: *const u32, small_len: usize, overflow: *const u32, overflow_len: usize, storage: *const u8, storage_len: usize, rows: *mut u32, rows_len: usize) -> u64;
+    pub fn hbc_string_bytes(storage: *const u8, storage_len: usize, rows: *const u32, rows_len: usize, index: usize, start: *mut usize, len: *mut usize);
 }
