@@ -3,24 +3,31 @@
  * Common to all calls
  *
  * - Bytes that are lent are a pointer and a count: `s`, `s_len`. They are only read. The pointer must stand for that
- *   many bytes, and must not be NULL, not even where the count is 0.
- * - A number that is lent (`size_t *at`, `uint32_t *value`, ..) must not be NULL, and must not overlap the bytes or
- *   another lent number.
+ *   many bytes, and must not be NULL, not even where the count is 0. A table is lent in the same way, `table` and
+ *   `table_len`; the count is one of words, not of rows or bytes. Where it is const it is only read.
+ * - A number that is lent (`size_t *at`, `uint32_t *value`, ..), and a table that is not const, must not be NULL, and
+ *   must not overlap the bytes or anything else that is lent.
  * - `at` is the cursor: the position in the bytes, from 0. It is read, and holds the cursor afterwards. It may hold
  *   any number.
- * - The answer is one number: 0 where the call is accepted, else the refusal's number times 2^32, plus its place.
- *   HBC_NUMBER and HBC_PLACE take it apart. The place is 0 in all calls of this header.
- * - A value is written only where the call is accepted; a refused call leaves the lent values as they were, and the
- *   cursor too, unless it says otherwise below.
+ * - The answer is one number: where the call is accepted 0, or a number below 2^32 if it says so below; else the
+ *   refusal's number times 2^32, plus its place. HBC_NUMBER and HBC_PLACE take it apart. The place is 0 unless it is
+ *   named below.
+ * - A value is written only where the call is accepted; a refused call leaves the lent values and every word of the
+ *   lent tables as they were, and the cursor too, unless it says otherwise below.
  * - Every call ends, on every input, and never reads outside the bytes lent.
  *
  * Refusal numbers of these calls, in the order in which they are looked for
  *
+ *  12  a layout that there is not
  *   1  more than 2^30 bytes are lent
  *   6  alignment 0
- *   2  the cursor stands past the end; or a seek or align goes past the end
+ *   2  the cursor or a start stands past the end; or a seek or align goes past the end
+ *  10  a span is reversed, or goes past the end
+ *  11  fewer rows are lent to be read than the count says
+ *   4  a lent table has too few rows
  *   3  a read needs bytes past the end
  *   5  the tenth byte of a LEB128 number has bit 7 set
+ *   8  no overflow entry is left
  *   9  a zero-ended string has no zero
  */
 #ifndef HBC_H
@@ -97,6 +104,40 @@ uint64_t hbc_read_cstring(const uint8_t *s, size_t s_len, size_t *at, size_t *st
  * Refused as hbc_read_uleb128, with the cursor as it leaves it; or 3 if fewer bytes are left than the length says: the
  * cursor then stands after the length. */
 uint64_t hbc_read_length_prefixed_string(const uint8_t *s, size_t s_len, size_t *at, size_t *start, size_t *size);
+
+/* ---- String tables ---- */
+
+/* Reads `count` words from the cursor on, the least byte first, into `table`. Kind runs are read so too.
+ * Accepted, the cursor moves behind them; words of the table past the first `count` stay.
+ * Refused 1; 2 if the cursor is past the end; 4 if the table has fewer than `count` words; 3 if the bytes end before
+ * the words do, with the count of whole entries before that as place. */
+uint64_t hbc_read_u32_table(const uint8_t *s, size_t s_len, size_t *at, uint32_t count, uint32_t *table,
+                            size_t table_len);
+
+/* The same for `count` pairs of words: overflow strings, table entries, shapes, CJS pairs. The table needs two words
+ * for each. */
+uint64_t hbc_read_pair_table(const uint8_t *s, size_t s_len, size_t *at, uint32_t count, uint32_t *table,
+                             size_t table_len);
+
+/* One row of four words for each of the first n strings, n being the lesser of `count` and `small_len`:
+ *
+ *   start in the storage, byte length, 0 valid or 1 invalid (start and length are then 0), marks (1 UTF-16,
+ *   2 identifier; their sum if both)
+ *
+ * `kinds`: the words of the kind runs. `small`: the small entries, a word each. `overflow`: pairs, two words each; a
+ * last word without its partner is none.
+ * Accepted, the answer is n, a number below 2^32; words past the rows stay.
+ * Refused 1 if the storage is longer than 2^30 bytes; 4 if fewer than n whole rows are lent; 8 if a string needs an
+ * overflow pair and none is left, with the string's number as place. */
+uint64_t hbc_decode_strings(uint32_t count, const uint32_t *kinds, size_t kinds_len, const uint32_t *small,
+                            size_t small_len, const uint32_t *overflow, size_t overflow_len, const uint8_t *storage,
+                            size_t storage_len, uint32_t *rows, size_t rows_len);
+
+/* The bytes of one string, by row `index` of such rows: `*len` of them from `storage + *start` on, always within the
+ * storage. Both are 0 where there is no such row, where its third word is not 0, and where it leaves the storage.
+ * Never refused, at any length. */
+void hbc_string_bytes(const uint8_t *storage, size_t storage_len, const uint32_t *rows, size_t rows_len, size_t index,
+                      size_t *start, size_t *len);
 
 /* ---- Function tables ----
  *

@@ -9,6 +9,8 @@ mod io;
 #[cfg(all(published, archive))]
 mod parsing;
 #[cfg(all(published, archive))]
+mod strings;
+#[cfg(all(published, archive))]
 mod table;
 #[cfg(all(published, archive))]
 mod whole;
@@ -17,6 +19,7 @@ mod whole;
 fn main() -> ExitCode {
     table::main(&[
         ("io", io::rows),
+        ("table", strings::rows),
         ("function", function::rows),
         ("parsing", parsing::rows),
     ])

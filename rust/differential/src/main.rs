@@ -10,9 +10,13 @@ mod function;
 #[cfg(all(published, archive))]
 mod io;
 #[cfg(all(published, archive))]
+mod lent;
+#[cfg(all(published, archive))]
 mod parsing;
 #[cfg(all(published, archive))]
 mod run;
+#[cfg(all(published, archive))]
+mod table;
 #[cfg(all(published, archive))]
 mod words;
 
@@ -25,6 +29,12 @@ fn main() -> ExitCode {
             compare: io::compare,
             record: Some(io::record::write),
             replay: io::replay,
+        },
+        Layer {
+            name: "table",
+            compare: table::compare,
+            record: None,
+            replay: table::replay,
         },
         Layer {
             name: "function",
