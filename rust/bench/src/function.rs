@@ -15,7 +15,7 @@ const START: usize = 128;
 /// A layout's number and name, the bytes of a header, and those of a large header with its padding.
 const LAYOUTS: [(u32, &str, usize, usize); 2] = [(0, "legacy", 16, 32), (1, "modern", 12, 40)];
 
-/// One function of this many has a large header.
+/// One function of this many has a large header, where nothing else is said.
 const LARGE: usize = 16;
 
 pub fn rows(bench: &Bench) {
@@ -24,16 +24,20 @@ pub fn rows(bench: &Bench) {
         "ours writes into lent words, which are there already, or made anew each time as the vector is.",
         "function",
     );
-    for (layout, name, own, large) in LAYOUTS {
+    for (layout, name, ..) in LAYOUTS {
         for size in SIZES {
-            let count = (size - START) * LARGE / (own * LARGE + large);
-            let file = File::new(layout, count, size);
-            file.read(bench, name);
+            let file = File::filling(layout, size, LARGE);
+            file.read(bench, &format!("read {name}"));
+            file.read_anew(bench, &format!("read {name}, table made anew"));
         }
+        let [small, _] = SIZES;
+        let file = File::filling(layout, small, usize::MAX);
+        file.read(bench, &format!("read {name}, none large"));
+        let file = File::filling(layout, small, 1);
+        file.read(bench, &format!("read {name}, all large"));
         for count in [10_000, 100_000, 1_000_000] {
-            let size = START + count * own + count.div_ceil(LARGE) * large;
-            let file = File::new(layout, count, size);
-            file.read_once(bench, name);
+            let file = File::new(layout, count, LARGE);
+            file.read(bench, &format!("read {name}"));
         }
     }
     heading(
@@ -41,12 +45,12 @@ pub fn rows(bench: &Bench) {
         "The edit is in a header in the middle of the table, or in the last large header.",
         "function",
     );
-    for (layout, name, own, large) in LAYOUTS {
+    for (layout, name, own, _) in LAYOUTS {
         for size in SIZES {
-            let count = (size - START) * LARGE / (own * LARGE + large);
-            let file = File::new(layout, count, size);
-            file.refresh(bench, name, "header", START + own * (count / 2));
-            file.refresh(bench, name, "large", file.last);
+            let file = File::filling(layout, size, LARGE);
+            let header = START + own * (file.count / 2);
+            file.refresh(bench, &format!("refresh {name}, header"), header);
+            file.refresh(bench, &format!("refresh {name}, large"), file.last);
         }
     }
 }
@@ -61,21 +65,29 @@ struct File {
 }
 
 impl File {
-    fn new(layout: u32, count: usize, size: usize) -> File {
+    /// As many functions as a file of this size holds with their large headers, of which there is one for `one_in`.
+    fn filling(layout: u32, size: usize, one_in: usize) -> File {
+        let (_, _, own, large) = LAYOUTS[layout as usize];
+        let each = own as f64 + large as f64 / one_in as f64;
+        File::new(layout, ((size - START) as f64 / each) as usize, one_in)
+    }
+
+    fn new(layout: u32, count: usize, one_in: usize) -> File {
         let mut random = Random::new(1);
         let (_, _, own, large) = LAYOUTS[layout as usize];
+        let table = START + count * own;
+        let size = table + count / one_in * large;
         let mut bytes = Vec::with_capacity(size + 8);
         while bytes.len() < size {
             bytes.extend(random.word().to_le_bytes());
         }
         bytes.truncate(size);
-        let mut place = START + count * own;
-        let mut last = place;
+        let (mut place, mut last) = (table, table);
         for i in 0..count {
             let header = &mut bytes[START + i * own..][..own];
             header[own - 1] &= !FLAG_OVERFLOWED;
-            // By chance, so that no pattern can be learnt; the file has room for all of them.
-            if random.below(LARGE) == 0 && place + large <= size {
+            // By chance, so that no pattern can be learnt, as long as there is room.
+            if random.below(one_in) == 0 && place + large <= size {
                 header[own - 1] |= FLAG_OVERFLOWED;
                 let [a, b, c, d] = (place as u32).to_le_bytes();
                 header[..3].copy_from_slice(&[a, b, if layout == 0 { 0 } else { c }]);
@@ -132,20 +144,17 @@ impl File {
     }
 
     fn read(&self, bench: &Bench, name: &str) {
-        self.read_once(bench, name);
-        let made = || self.ours(&mut vec![0; self.count * ROW]);
-        let name = format!("read {name}, table made anew");
-        self.size().row(bench, &name, made, || self.published());
-    }
-
-    fn read_once(&self, bench: &Bench, name: &str) {
         let mut table = vec![0; self.count * ROW];
         let lent = || self.ours(&mut table);
-        let name = format!("read {name}");
-        self.size().row(bench, &name, lent, || self.published());
+        self.size().row(bench, name, lent, || self.published());
     }
 
-    fn refresh(&self, bench: &Bench, name: &str, what: &str, low: usize) {
+    fn read_anew(&self, bench: &Bench, name: &str) {
+        let made = || self.ours(&mut vec![0; self.count * ROW]);
+        self.size().row(bench, name, made, || self.published());
+    }
+
+    fn refresh(&self, bench: &Bench, name: &str, low: usize) {
         let mut table = vec![0; self.count * ROW];
         self.ours(&mut table);
         let (s, len) = (self.bytes.as_ptr(), self.bytes.len());
@@ -160,7 +169,6 @@ impl File {
             let sum = sampled.map(|i| u64::from(table[i * ROW + 4]));
             (count as u64, sum.iter().sum())
         };
-        let name = format!("refresh {name}, {what}");
-        self.size().row(bench, &name, ours, || self.published());
+        self.size().row(bench, name, ours, || self.published());
     }
 }

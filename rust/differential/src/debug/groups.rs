@@ -20,8 +20,9 @@ pub fn compare(run: &mut Run) -> Compared {
     run.group("2^30 and 2^30 + 1 bytes", longest)?;
     run.group("random", |run| {
         let mut random = run.random(9);
+        let lent = plenty(&mut random);
         while run.more() {
-            any(run, &mut random)?;
+            any(run, &mut random, &lent)?;
         }
         Ok(())
     })
@@ -364,7 +365,7 @@ fn longest(run: &mut Run) -> Compared {
 }
 
 /// A good section with some of its pieces put in another way, then cut or damaged.
-fn any(run: &mut Run, random: &mut Random) -> Compared {
+fn any(run: &mut Run, random: &mut Random, plenty: &[Vec<u32>; 4]) -> Compared {
     let mut section = good(random);
     let pieces = section.pieces().count();
     for _ in 0..random.below(4) {
@@ -390,9 +391,10 @@ fn any(run: &mut Run, random: &mut Random) -> Compared {
     if random.below(4) == 0 {
         file.truncate(random.below(file.len() + 1));
     }
-    let lent = ROWS.map(|row| {
-        let words = random.pick(&[60, 60, 60, 60, 3]);
-        any_words(random, words * row)
+    let lent = std::array::from_fn(|i| {
+        let from = random.below(500);
+        let rows = random.pick(&[60, 60, 60, 60, 3]);
+        plenty[i][from * ROWS[i]..][..rows * ROWS[i]].to_vec()
     });
     on(run, &file, offset, &lent)?;
     Ok(())
