@@ -4,11 +4,17 @@
 use std::process::ExitCode;
 
 #[cfg(all(published, archive))]
+mod buffer;
+#[cfg(all(published, archive))]
 mod io;
 #[cfg(all(published, archive))]
 mod lent;
 #[cfg(all(published, archive))]
 mod run;
+#[cfg(all(published, archive))]
+mod search;
+#[cfg(all(published, archive))]
+mod shown;
 #[cfg(all(published, archive))]
 mod table;
 
@@ -27,6 +33,12 @@ fn main() -> ExitCode {
             compare: table::compare,
             record: None,
             replay: table::replay,
+        },
+        Layer {
+            name: "buffer",
+            compare: buffer::compare,
+            record: None,
+            replay: buffer::replay,
         },
     ])
 }
