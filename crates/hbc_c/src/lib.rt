@@ -4,7 +4,11 @@ ghost use mathlib.Core.Path.{_≡_};
 ghost use Rattle.hbc_c.specs.Code.{codeOf};
 use hbc_io::Refusal;
 
+pub mod buffer;
+pub mod debug;
+pub mod function;
 pub mod io;
+pub mod parsing;
 pub mod table;
 
 pub(crate) fn code(r: Refusal) -> u64

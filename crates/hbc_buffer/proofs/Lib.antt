@@ -1,0 +1,5 @@
+pub mod Tags
+pub mod Runs
+pub mod Fills
+pub mod Passes
+pub mod Exits

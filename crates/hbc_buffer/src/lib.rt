@@ -1,0 +1,188 @@
+// Literal series, after buffer.rs: tags, runs of values, and two lent tables that take kind and payload.
+// Checked first, run by run; written after.
+ghost use mathlib.Core.Path.{_≡_};
+ghost use Prim.Native.Nat.{_+_, _*_, _≤_, _<_, _^_, min};
+ghost use lib.ListN.{length};
+ghost use Rattle.hbc_bits.specs.Bits.{leAt};
+ghost use Rattle.hbc_io.specs.Outcome.{cursorAt, limit};
+ghost use Rattle.hbc_buffer_literal.specs.Literal.{widthOf};
+ghost use Rattle.hbc_buffer.specs.Series.{after, kindAt, payloadAt, filled, usedOf, ReadSeries};
+ghost use Rattle.hbc_buffer.specs.Fill.{byteAt, lengthOf, filledFrom, Whole};
+use hbc_bits::bits;
+use hbc_buffer_literal::kind;
+use hbc_buffer_literal::read_payload;
+use hbc_buffer_literal::width;
+use hbc_io::Cursor;
+use hbc_io::LIMIT;
+use hbc_io::ReadU8;
+use hbc_io::ReadU64;
+use hbc_io::Refusal;
+use hbc_io::read_u8;
+use hbc_io::refuse;
+
+pub enum Series {
+    // how many bytes the series has
+    Used(u32),
+    Refused(Refusal),
+}
+
+// A byte, 0 past the end.
+fn byte(s: &[u8], at: usize) -> u64
+    ensures { λ r. ⌜ (r ≡ byteAt (now (s .entry)) at) × (r < 256) ⌝ }
+{
+    match read_u8(s, Cursor { at }) {
+        ReadU8::Got(v, _) => v as u64,
+        ReadU8::Refused(_, _) => 0,
+    }
+}
+
+// The length that a tag byte and the byte after it give.
+fn length_of(b: u64, second: u64) -> u64
+    requires { ⌜ second < 256 ⌝ }
+    ensures { λ r. ⌜ r ≡ lengthOf b second ⌝ }
+{
+    if bits(b, 7, 1) == 0 {
+        return bits(b, 0, 4);
+    }
+    bits(b, 0, 4) * 256 + second
+}
+
+fn least(a: usize, b: usize) -> usize
+    ensures { λ r. ⌜ r ≡ min a b ⌝ }
+{
+    if a < b { a } else { b }
+}
+
+// Reads `count` values run by run and writes nothing. A run takes one test, however long it is.
+fn check(s: &[u8], from: usize, count: usize) -> Series
+    requires { ⌜ (length (now s) ≤ limit) × (from ≤ length (now s)) × (count < 2 ^ 32) ⌝ }
+    ensures { λ r. ⌜ r ≡ usedOf from (after count (now (s .entry)) (cursorAt from)) ⌝ }
+{
+    let mut at = from;
+    let mut done: usize = 0;
+    while done < count {
+        let b = byte(s, at);
+        let first = at + 1 + (bits(b, 7, 1) as usize);
+        if s.len() < first {
+            return Series::Refused(refuse(3, done as u32));
+        }
+        let n = least(length_of(b, byte(s, at + 1)) as usize, count - done);
+        let w = width(bits(b, 4, 3));
+        let room = s.len() - first;
+        if room < n * w {
+            return Series::Refused(refuse(3, (done + room / w) as u32));
+        }
+        at = first + n * w;
+        done += n;
+    }
+    Series::Used((at - from) as u32)
+}
+
+// Entries `first` to `first + n - 1` of a table of kinds.
+fn fill_kinds(table: &mut [u32], first: usize, n: usize, k: u32)
+    requires { ⌜ first + n ≤ length (now table) ⌝ }
+    ensures { λ _. ⌜ now (table .exit) ≡ filledFrom first n (λ _. k) (now (table .entry)) ⌝ }
+{
+    let mut i: usize = 0;
+    while i < n {
+        table[first + i] = k;
+        i += 1;
+    }
+}
+
+// The number of a value's bytes that are known to be there.
+fn payload(s: &[u8], at: usize, tag: u64) -> u64
+    requires { ⌜ (length (now s) ≤ limit) × (at + widthOf tag ≤ length (now s)) ⌝ }
+    ensures { λ r. ⌜ r ≡ leAt (now (s .entry)) at (widthOf tag) ⌝ }
+{
+    match read_payload(s, Cursor { at }, tag) {
+        ReadU64::Got(v, _) => v,
+        ReadU64::Refused(_, _) => 0,
+    }
+}
+
+// The payloads of n values of one run, whose bytes start at `at`. Answers where they end.
+fn fill_payloads(s: &[u8], at: usize, tag: u64, table: &mut [u64], first: usize, n: usize) -> usize
+    requires { ⌜ (length (now s) ≤ limit) × (at + n * widthOf tag ≤ length (now s)) × (first + n ≤ length (now table)) ⌝ }
+    ensures { λ r. ⌜ (r ≡ at + n * widthOf tag) × (now (table .exit) ≡ filledFrom first n (λ i. leAt (now (s .entry)) (at + i * widthOf tag) (widthOf tag)) (now (table .entry))) ⌝ }
+{
+    let w = width(tag);
+    let mut p = at;
+    let mut i: usize = 0;
+    while i < n {
+        table[first + i] = payload(s, p, tag);
+        p += w;
+        i += 1;
+    }
+    p
+}
+
+// The same with the width known in each loop.
+fn fill_run(s: &[u8], at: usize, tag: u64, table: &mut [u64], first: usize, n: usize) -> usize
+    requires { ⌜ (length (now s) ≤ limit) × (at + n * widthOf tag ≤ length (now s)) × (first + n ≤ length (now table)) ⌝ }
+    ensures { λ r. ⌜ (r ≡ at + n * widthOf tag) × (now (table .exit) ≡ filledFrom first n (λ i. leAt (now (s .entry)) (at + i * widthOf tag) (widthOf tag)) (now (table .entry))) ⌝ }
+{
+    match tag {
+        3 => fill_payloads(s, at, 3, table, first, n),
+        4 => fill_payloads(s, at, 4, table, first, n),
+        5 => fill_payloads(s, at, 5, table, first, n),
+        6 => fill_payloads(s, at, 6, table, first, n),
+        7 => fill_payloads(s, at, 7, table, first, n),
+        _ => fill_payloads(s, at, 0, table, first, n),
+    }
+}
+
+// Writes the values of a series that is known to be whole.
+fn write(s: &[u8], from: usize, count: usize, kinds: &mut [u32], payloads: &mut [u64])
+    requires { ⌜ (length (now s) ≤ limit) × (from ≤ length (now s)) × (count < 2 ^ 32) × (count ≤ length (now kinds)) × (count ≤ length (now payloads)) × Whole count (now s) (cursorAt from) ⌝ }
+    ensures { λ _. ⌜ now (kinds .exit) ≡ filled count (kindAt (now (s .entry)) (cursorAt from)) (now (kinds .entry)) ⌝ }
+    ensures { λ _. ⌜ now (payloads .exit) ≡ filled count (payloadAt (now (s .entry)) (cursorAt from)) (now (payloads .entry)) ⌝ }
+{
+    let mut at = from;
+    let mut done: usize = 0;
+    while done < count {
+        let b = byte(s, at);
+        let first = at + 1 + (bits(b, 7, 1) as usize);
+        let tag = bits(b, 4, 3);
+        let n = least(length_of(b, byte(s, at + 1)) as usize, count - done);
+        fill_kinds(kinds, done, n, kind(tag));
+        at = fill_run(s, first, tag, payloads, done, n);
+        done += n;
+    }
+}
+
+// Reads `count` values of the series at `offset` into the two tables, kind and payload of each; answers how many bytes they take.
+pub fn read_series(
+    s: &[u8],
+    offset: u32,
+    count: u32,
+    kinds: &mut [u32],
+    payloads: &mut [u64],
+) -> Series
+    ensures { λ r. ⌜ ReadSeries (now (s .entry)) offset count (now (kinds .entry)) (now (payloads .entry)) r (now (kinds .exit)) (now (payloads .exit)) ⌝ }
+{
+    let from = offset as usize;
+    let n = count as usize;
+    if LIMIT < s.len() {
+        return Series::Refused(refuse(1, 0));
+    }
+    if count == 0 {
+        return Series::Used(0);
+    }
+    if s.len() <= from {
+        return Series::Refused(refuse(7, 0));
+    }
+    if kinds.len() < n {
+        return Series::Refused(refuse(4, 0));
+    }
+    if payloads.len() < n {
+        return Series::Refused(refuse(4, 0));
+    }
+    match check(s, from, n) {
+        Series::Used(used) => {
+            write(s, from, n, kinds, payloads);
+            Series::Used(used)
+        }
+        Series::Refused(r) => Series::Refused(r),
+    }
+}

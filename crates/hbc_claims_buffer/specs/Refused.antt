@@ -1,0 +1,48 @@
+-- What a refusal leaves, and what count 0 hands back.
+use Prim.Native.Nat.{ℕ, _+_, _-_, _≤_}
+use mathlib.Core.Path.{_≡_, refl, ap, sym, _∙_}
+use mathlib.Core.List.{List, []}
+use mathlib.Core.Bool.{Bool, true, false, cond}
+use native.Mathlib.Omega.{arith}
+use borrow.Author.Tests.{ne-eqb, le-ltb}
+use lib.Dec.{ltb}
+use lib.ListN.{length, take, drop}
+use Rattle.hbc_io.specs.declared.Refusal.{Refusal}
+use Rattle.hbc_io.specs.Outcome.{cursorAt}
+use Rattle.hbc_buffer.specs.declared.Series.{Series}
+use Rattle.hbc_buffer.specs.declared.Series.the-variants as series
+use Rattle.hbc_buffer.specs.Series.{kindAt, payloadAt, tableAfter, ReadSeries}
+use Rattle.hbc_buffer_object.specs.Object.{named, bytesOf, startOf, objectOf, objectPart}
+
+-- a refused series leaves both tables as they were
+pub refused-leaves : {s : List ℕ} {offset count : ℕ} {ks ps ks′ ps′ : List ℕ} {r : Refusal} → ReadSeries s offset count ks ps (series.Refused r) ks′ ps′ → (ks′ ≡ ks) × (ps′ ≡ ps)
+unfolding tableAfter
+refused-leaves {s} {offset} {count} {ks} {ps} p = (
+  p .kinds-left ∙ ap (λ (a : Series). tableAfter a (kindAt s (cursorAt offset)) count ks) (sym (p .says)),
+  p .payloads-left ∙ ap (λ (a : Series). tableAfter a (payloadAt s (cursorAt offset)) count ps) (sym (p .says)),
+)
+
+by-tests : (a b : Bool) (x : List ℕ) → x ≡ [] → cond a [] (cond b [] x) ≡ []
+by-tests true b x e = refl
+by-tests false true x e = refl
+by-tests false false x e = e
+
+-- no bytes from the first place on are none
+pub empty : (s : List ℕ) → bytesOf s 0 0 ≡ []
+empty s = by-tests (ltb (length s) 0) (ltb (length s - 0) 0) (take 0 (drop 0 s)) refl
+
+-- and hands back no bytes
+pub refused-empty : (keys values : List ℕ) (b : Bool) (offset count : ℕ) (r : Refusal) → objectPart keys values (objectOf b offset count (series.Refused r)) ≡ []
+refused-empty keys values b offset count r = empty (named b keys values)
+
+-- for count 0: the empty beginning
+pub none-empty : (keys values : List ℕ) (b : Bool) (offset : ℕ) → objectPart keys values (objectOf b offset 0 (series.Used 0)) ≡ []
+none-empty keys values b offset = empty (named b keys values)
+
+taken : (s : List ℕ) (offset count n : ℕ) → (count ≡ 0 → ⊥) → offset + n ≤ length s → bytesOf s (startOf offset count) n ≡ take n (drop offset s)
+taken s offset count n some h = rw (ne-eqb _ _ some, le-ltb (length s) offset (omega arith), le-ltb (length s - offset) n (omega arith))
+
+-- what was used is the part from the offset on, of the buffer that was named, wherever it is there
+pub part-is : (keys values : List ℕ) (b : Bool) (offset count n : ℕ) → (count ≡ 0 → ⊥) → offset + n ≤ length (named b keys values)
+    → objectPart keys values (objectOf b offset count (series.Used n)) ≡ take n (drop offset (named b keys values))
+part-is keys values b offset count n some h = taken (named b keys values) offset count n some h

@@ -1,0 +1,1 @@
+// No code: what the calls on literals promise together, and one by one. The theorems stand in specs/.

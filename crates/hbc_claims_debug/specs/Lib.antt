@@ -1,0 +1,5 @@
+pub mod Unique
+pub mod Fuel
+pub mod Leaves
+pub mod Rising
+pub mod Cases

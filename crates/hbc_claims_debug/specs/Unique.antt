@@ -1,0 +1,87 @@
+-- Each public call's contract, as the checker has it, leaves one answer, and one value for every lent word.
+use mathlib.Core.Path.{_≡_, sym, ap, _∙_}
+use mathlib.Core.List.{List}
+use Prim.Native.Nat.{ℕ}
+use denote.Ref.{now}
+use native.Mathlib.Omega.{arith}
+use Rattle.hbc_debug_items.specs.Signed.{ofHeld}
+use Rattle.hbc_debug_items.specs.declared.ReadHeld.{ReadHeld}
+use Rattle.hbc_debug_items.specs.declared.ReadHeld.the-variants as held
+use Rattle.hbc_debug.specs.Debug.{tables}
+use Rattle.hbc_debug_items.proofs.read_bits.Reads as of-read-bits
+use Rattle.hbc_debug_items.proofs.rows.put_row.Reads as of-put-row
+use Rattle.hbc_debug_parts.proofs.find_parts.Reads as of-find-parts
+use Rattle.hbc_debug_parts.proofs.part_bytes.Reads as of-part-bytes
+use Rattle.hbc_debug_strings.proofs.count_strings.Reads as of-count-strings
+use Rattle.hbc_debug_strings.proofs.write_strings.Reads as of-write-strings
+use Rattle.hbc_debug_scopes.proofs.count_scopes.Reads as of-count-scopes
+use Rattle.hbc_debug_scopes.proofs.write_scopes.Reads as of-write-scopes
+use Rattle.hbc_debug_callees.proofs.count_callees.Reads as of-count-callees
+use Rattle.hbc_debug_callees.proofs.write_callees.Reads as of-write-callees
+use Rattle.hbc_debug.proofs.read_debug.Reads as of-read-debug
+
+-- one answer, seen through `f` where it is a part of what was lent
+abbrev pub One : {K A R E : Type 0} → (K → A → R → E → Type 0) → Type 0
+One {K} {A} {R} {E} L = (k : K) (a : A) (r q : R) (s u : E) → L k a r s → L k a q u → r ≡ q
+
+abbrev pub Bytes : {K A R E : Type 0} → (K → A → R → E → Type 0) → {W : Type 0} → (R → W) → Type 0
+Bytes {K} {A} {R} {E} L f = (k : K) (a : A) (r q : R) (s u : E) → L k a r s → L k a q u → f r ≡ f q
+
+-- and the words that E, all parameters as they are left, holds at a place
+abbrev pub Words : {K A R E : Type 0} → (K → A → R → E → Type 0) → {W : Type 0} → (E → W) → Type 0
+Words {K} {A} {R} {E} L words = (k : K) (a : A) (r q : R) (s u : E) → L k a r s → L k a q u → words s ≡ words u
+
+abbrev pub Both : {K A R E : Type 0} → (K → A → R → E → Type 0) → {W : Type 0} → (E → W) → Type 0
+Both {K} {A} {R} {E} L words = (k : K) (a : A) (r q : R) (s u : E) → L k a r s → L k a q u → (r ≡ q) × (words s ≡ words u)
+
+-- the law: what equals one thing is one thing
+pub same : {A : Type 0} {x r q : A} → r ≡ x → q ≡ x → r ≡ q
+same e f = e ∙ sym f
+
+-- an answer is known by what each of its cases says
+held-one : (r q : ReadHeld) → ofHeld r ≡ ofHeld q → r ≡ q
+held-one (held.Got v n) (held.Got w m) e = cc
+held-one (held.Refused v n) (held.Refused w m) e = cc
+held-one (held.Got v n) (held.Refused w m) e = let z : _≡_ {A = ℕ} 0 1 = cc in absurd (omega arith)
+held-one (held.Refused v n) (held.Got w m) e = let z : _≡_ {A = ℕ} 0 1 = cc in absurd (omega arith)
+
+pub data Call : Type 0 where
+  read_bits : Call
+  put_row : Call
+  find_parts : Call
+  part_bytes : Call
+  count_strings : Call
+  write_strings : Call
+  count_scopes : Call
+  write_scopes : Call
+  count_callees : Call
+  write_callees : Call
+  read_debug : Call
+
+abbrev pub Determined : Call → Type 0
+Determined read_bits = One of-read-bits.Learnt
+Determined put_row = Words of-put-row.Learnt (λ s. now (s .0))
+Determined find_parts = One of-find-parts.Learnt
+Determined part_bytes = Bytes of-part-bytes.Learnt (λ r. now r)
+Determined count_strings = One of-count-strings.Learnt
+Determined write_strings = Words of-write-strings.Learnt (λ s. now (s .1 .1 .0))
+Determined count_scopes = One of-count-scopes.Learnt
+Determined write_scopes = Words of-write-scopes.Learnt {W = List ℕ × List ℕ} (λ s. (now (s .1 .1 .0), now (s .1 .1 .1 .0)))
+Determined count_callees = One of-count-callees.Learnt
+Determined write_callees = Words of-write-callees.Learnt (λ s. now (s .1 .1 .0))
+Determined read_debug = Both of-read-debug.Learnt (λ s. tables (now (s .1 .1 .0)) (now (s .1 .1 .1 .0)) (now (s .1 .1 .1 .1 .0)) (now (s .1 .1 .1 .1 .1 .0)))
+
+pub determined : (c : Call) → Determined c
+determined read_bits = λ k a r q s u e f. held-one r q (same e f)
+determined put_row = λ k a r q s u. same
+determined find_parts = λ k a r q s u. same
+determined part_bytes = λ k a r q s u. same
+determined count_strings = λ k a r q s u e f. ap (λ (n : ℕ). record { strings = n }) (same e f)
+determined write_strings = λ k a r q s u. same
+determined count_scopes = λ k a r q s u e f.
+    ap (λ (n : ℕ). record { scopes = n; names = r .names }) (same (e .scopes-are) (f .scopes-are))
+    ∙ ap (λ (n : ℕ). record { scopes = q .scopes; names = n }) (same (e .names-are) (f .names-are))
+determined write_scopes = λ k a r q s u e f. let g = same (e .rows-are) (f .rows-are) in let h = same (e .names-are) (f .names-are) in cc
+determined count_callees = λ k a r q s u e f. ap (λ (n : ℕ). record { callees = n }) (same e f)
+determined write_callees = λ k a r q s u. same
+determined read_debug = λ k a r q s u e f. (same (e .says) (f .says), same (e .leaves) (f .leaves))

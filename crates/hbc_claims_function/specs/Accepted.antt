@@ -1,0 +1,81 @@
+-- What an accepted read and an accepted refresh say of their tests, and of the table.
+use Prim.Native.Nat.{ℕ, _*_, _≤_}
+use mathlib.Core.Path.{_≡_, refl, ap, sym, _∙_}
+use mathlib.Core.List.{List}
+use mathlib.Core.Bool.{Bool, true, false, cond}
+use lib.ListN.{length}
+use lib.Dec.{ltb}
+use borrow.Author.Tests.{ltb-false}
+use Rattle.hbc_io.specs.Outcome.{limit}
+use Rattle.hbc_io.specs.declared.Refusal.{Refusal}
+use Rattle.hbc_header.specs.declared.Layout.{Layout}
+use Rattle.hbc_header.specs.declared.Reading.{Reading}
+use Rattle.hbc_header.specs.declared.Reading.the-variants as reading
+use Rattle.hbc_header.specs.Answer.{Answer, gives, refuses, asked, ofReading}
+use Rattle.hbc_header.specs.Header.{functionAt}
+use Rattle.hbc_header.specs.Row.{width}
+use Rattle.hbc_header_ground.specs.Meets.{meets}
+use Rattle.hbc_function.specs.declared.Refreshed.{Refreshed}
+use Rattle.hbc_function.specs.declared.Refreshed.the-variants as refreshed
+use Rattle.hbc_function.specs.Table.{scan, putRows, all, written, readAnswer, readTable, ReadFunctions}
+use Rattle.hbc_function.specs.Refresh.{ofRefreshed, held, refreshAnswer, refreshTable, RefreshFunctions}
+use Rattle.hbc_claims_function.specs.Scans.{no-gives}
+
+past : {A : Type 0} (b : Bool) (x : Refusal) (o : Answer A) {v : A} → cond b (refuses x) o ≡ gives v → (b ≡ false) × (o ≡ gives v)
+past true x o e = absurd (no-gives e)
+past false x o e = (refl, e)
+
+un-asked : {A : Type 0} (a : Answer A) → asked a ≡ gives tt → (v : A) × (a ≡ gives v)
+un-asked (gives v) e = (v, refl)
+un-asked (refuses x) e = absurd (no-gives e)
+
+pub record Accepted (s : List ℕ) (layout : Layout) (start count words : ℕ) : Type 0 where
+  pub short : length s ≤ limit
+  pub begins : start ≤ length s
+  pub holds : count * width ≤ words
+  pub number : ℕ
+  pub scans : scan all (functionAt s layout start) count ≡ gives number
+
+pub accepted : (s : List ℕ) (layout : Layout) (start count words : ℕ) → readAnswer s layout start count words ≡ gives tt → Accepted s layout start count words
+unfolding readAnswer
+accepted s layout start count words e =
+    let p = past (ltb limit (length s)) _ _ e in
+    let q = past (ltb (length s) start) _ _ (p .1) in
+    let r = past (ltb words (count * width)) _ _ (q .1) in
+    let w = un-asked (scan all (functionAt s layout start) count) (r .1) in
+    record { short = ltb-false _ _ (p .0); begins = ltb-false _ _ (q .0); holds = ltb-false _ _ (r .0); number = w .0; scans = w .1 }
+
+pub record Refreshable (s : List ℕ) (layout : Layout) (start count low high words k : ℕ) : Type 0 where
+  pub holds : count * width ≤ words
+  pub scans : scan (meets s layout start low high) (functionAt s layout start) count ≡ gives k
+
+pub refreshable : (s : List ℕ) (layout : Layout) (start count low high words k : ℕ) → refreshAnswer s layout start count low high words ≡ gives k
+    → Refreshable s layout start count low high words k
+unfolding refreshAnswer
+refreshable s layout start count low high words k e =
+    let a = past (ltb limit (length s)) _ _ e in
+    let b = past (ltb (length s) start) _ _ (a .1) in
+    let c = past (ltb high low) _ _ (b .1) in
+    let d = past (ltb (length s) high) _ _ (c .1) in
+    let f = past (ltb words (count * width)) _ _ (d .1) in
+    let g = past (ltb (held s layout start) count) _ _ (f .1) in
+    record { holds = ltb-false _ _ (f .0); scans = g .1 }
+
+-- the table after each
+pub was-read : {s : List ℕ} {layout : Layout} {start count : ℕ} {t t′ : List ℕ} → ReadFunctions s layout start count t reading.Read t′
+    → t′ ≡ putRows all (functionAt s layout start) t count
+unfolding readTable
+was-read {s} {layout} {start} {count} {t} p =
+    p .leaves ∙ ap (λ (a : Answer (Unit {0})). written a (putRows all (functionAt s layout start) t count) t) (sym (p .says))
+
+pub was-done : {s : List ℕ} {layout : Layout} {start count low high n : ℕ} {t t′ : List ℕ} → RefreshFunctions s layout start count low high t (refreshed.Done n) t′
+    → t′ ≡ putRows (meets s layout start low high) (functionAt s layout start) t count
+unfolding refreshTable
+was-done {s} {layout} {start} {count} {low} {high} {t = t} p =
+    p .leaves ∙ ap (λ (a : Answer ℕ). written a (putRows (meets s layout start low high) (functionAt s layout start) t count) t) (sym (p .says))
+
+pub was-left : {s : List ℕ} {layout : Layout} {start count low high : ℕ} {x : Refusal} {t t′ : List ℕ} → RefreshFunctions s layout start count low high t (refreshed.Refused x) t′
+    → t′ ≡ t
+unfolding refreshTable
+was-left {s} {layout} {start} {count} {low} {high} {t = t} p =
+    p .leaves ∙ ap (λ (a : Answer ℕ). written a (putRows (meets s layout start low high) (functionAt s layout start) t count) t) (sym (p .says))

@@ -1,0 +1,164 @@
+-- A function that does not meet the span is the same in two files that are the same outside it; and one that is read has its header in the file.
+use Prim.Native.Nat.{ℕ, _+_, _*_, _/_, _≤_, _<_}
+use mathlib.Core.Path.{_≡_, refl, ap, sym, _∙_}
+use mathlib.Core.List.{List}
+use mathlib.Core.Bool.{Bool, true, false, cond}
+use native.Mathlib.Omega.{arith}
+use native.Mathlib.Nat.{le-refl}
+use lib.ListN.{length}
+use lib.Dec.{ltb}
+use borrow.Author.Tests.{ltb-false}
+use Rattle.hbc_bits.specs.Bits.{leAt}
+use Rattle.hbc_header.specs.declared.Layout.{Layout}
+use Rattle.hbc_header.specs.declared.Layout.the-variants as lay
+use Rattle.hbc_header.specs.declared.Legacy.{Legacy}
+use Rattle.hbc_header.specs.declared.Modern.{Modern}
+use Rattle.hbc_header.specs.declared.Record.{Record}
+use Rattle.hbc_header.specs.declared.Record.the-variants as rec
+use Rattle.hbc_header.specs.declared.Ground.{Ground}
+use Rattle.hbc_header.specs.declared.Ground.the-variants as ground
+use Rattle.hbc_header.specs.declared.Where.{Where}
+use Rattle.hbc_header.specs.declared.Where.the-variants as wh
+use Rattle.hbc_header.specs.Answer.{Answer, gives, refuses, asked}
+use Rattle.hbc_header.specs.Record.{legacyOf, modernOf, legacyLarge, modernLarge, overflowed, legacyPlace, modernPlace}
+use Rattle.hbc_header.specs.Header.{sizeOf, headerAt, groundBy, legacyGround, modernGround, groundAt, whereOf, legacyWhere, modernWhere, legacyFound, modernFound, legacyAt, modernAt, functionAt}
+use Rattle.hbc_header_ground.specs.Meets.{overlap, groundMeets, meets}
+use Rattle.hbc_claims_function.specs.Agree.{Agree, Same, agrees, same-num}
+
+module _ (a b : List ℕ) (at i : ℕ) where
+  legacy-large : Agree a b at (at + 31) → legacyLarge a at i ≡ legacyLarge b at i
+  unfolding legacyLarge
+  legacy-large v = λ j. record {
+    id = i;
+    offset = same-num v at 4 (omega arith) (omega arith) j;
+    «param_count» = same-num v (at + 4) 4 (omega arith) (omega arith) j;
+    size = same-num v (at + 8) 4 (omega arith) (omega arith) j;
+    name = same-num v (at + 12) 4 (omega arith) (omega arith) j;
+    «info_offset» = same-num v (at + 16) 4 (omega arith) (omega arith) j;
+    «frame_size» = same-num v (at + 20) 4 (omega arith) (omega arith) j;
+    «environment_size» = same-num v (at + 24) 4 (omega arith) (omega arith) j;
+    read = same-num v (at + 28) 1 (omega arith) (omega arith) j;
+    write = same-num v (at + 29) 1 (omega arith) (omega arith) j;
+    flags = same-num v (at + 30) 1 (omega arith) (omega arith) j;
+  }
+
+  modern-large : Agree a b at (at + 37) → modernLarge a at i ≡ modernLarge b at i
+  unfolding modernLarge
+  modern-large v = λ j. record {
+    id = i;
+    offset = same-num v at 4 (omega arith) (omega arith) j;
+    «param_count» = same-num v (at + 4) 4 (omega arith) (omega arith) j;
+    «loop_depth» = same-num v (at + 8) 4 (omega arith) (omega arith) j;
+    size = same-num v (at + 12) 4 (omega arith) (omega arith) j;
+    name = same-num v (at + 16) 4 (omega arith) (omega arith) j;
+    «number_reg» = same-num v (at + 20) 4 (omega arith) (omega arith) j;
+    «non_ptr_reg» = same-num v (at + 24) 4 (omega arith) (omega arith) j;
+    «frame_size» = same-num v (at + 28) 4 (omega arith) (omega arith) j;
+    «read_cache» = same-num v (at + 32) 1 (omega arith) (omega arith) j;
+    «write_cache» = same-num v (at + 33) 1 (omega arith) (omega arith) j;
+    «new_object» = same-num v (at + 34) 1 (omega arith) (omega arith) j;
+    «private_name» = same-num v (at + 35) 1 (omega arith) (omega arith) j;
+    flags = same-num v (at + 36) 1 (omega arith) (omega arith) j;
+    «info_offset» = (at + 37 + 3) / 4 * 4;
+  }
+
+-- what a choice that came out false says
+or-left : (p q : Bool) → cond p true q ≡ false → p ≡ false
+or-left false q e = refl
+or-left true q e = e
+
+or-right : (p q : Bool) → cond p true q ≡ false → q ≡ false
+or-right false q e = e
+or-right true q e = let z : q ≡ false = cc in z
+
+-- its own header is apart from the span, whether it is flagged or not
+own-apart : (n m low high at place : ℕ) (flag : Bool) → groundMeets n m low high (cond flag (ground.Large at place) (ground.Inline at)) ≡ false → overlap at n low high ≡ false
+unfolding groundMeets
+own-apart n m low high at place false o = o
+own-apart n m low high at place true o = or-left (overlap at n low high) (overlap place m low high) o
+
+-- two ways to read what was found, the same where the bytes are
+module _ (s : List ℕ) (n m low high : ℕ) (fa fb : Where → Answer Record) (at place : ℕ) (here : fa wh.Inline ≡ fb wh.Inline)
+    (there : overlap place m low high ≡ false → fa (wh.Large place) ≡ fb (wh.Large place)) (nowhere : (k : ℕ) → fa (wh.Refused k) ≡ fb (wh.Refused k)) where
+  same-large : (past cut : Bool) → overlap place m low high ≡ false
+      → fa (cond past (wh.Refused 2) (cond cut (wh.Refused 3) (wh.Large place))) ≡ fb (cond past (wh.Refused 2) (cond cut (wh.Refused 3) (wh.Large place)))
+  same-large true cut o = nowhere 2
+  same-large false true o = nowhere 3
+  same-large false false o = there o
+
+  same-found : (flag : Bool) → groundMeets n m low high (cond flag (ground.Large at place) (ground.Inline at)) ≡ false
+      → fa (whereOf s m (cond flag (ground.Large at place) (ground.Inline at))) ≡ fb (whereOf s m (cond flag (ground.Large at place) (ground.Inline at)))
+  unfolding groundMeets whereOf
+  same-found false o = here
+  same-found true o = same-large (ltb (length s) place) (ltb (length s) (place + m)) (or-right (overlap at n low high) (overlap place m low high) o)
+
+where-same : (a b : List ℕ) (m : ℕ) (g : Ground) → length a ≡ length b → whereOf a m g ≡ whereOf b m g
+unfolding whereOf
+where-same a b m ground.None e = refl
+where-same a b m (ground.Inline at) e = refl
+where-same a b m (ground.Large at place) e = rw e
+
+module _ {a b : List ℕ} {low high : ℕ} (v : Same a b low high) (i : ℕ) where
+  -- legacy, by whether the header runs past the end
+  legacy-by : (at : ℕ) (cut : Bool) → ltb (length b) (at + 16) ≡ cut → groundMeets 16 31 low high (legacyGround b at) ≡ false → legacyAt a at i ≡ legacyAt b at i
+  unfolding legacyAt legacyWhere legacyGround groundBy whereOf
+  legacy-by at true c o = rw (v .long, c)
+  legacy-by at false c o =
+      let r = legacyOf 0 (leAt b at 16) in
+      let g = cond (overflowed (r .flags)) (ground.Large at (legacyPlace r)) (ground.Inline at) in
+      let q : groundMeets 16 31 low high g ≡ false = rw c at o in
+      let e : leAt a at 16 ≡ leAt b at 16 = same-num (agrees v at 16 (own-apart 16 31 low high at (legacyPlace r) (overflowed (r .flags)) q)) at 16 (le-refl at) (le-refl (at + 16)) in
+      let h : legacyGround a at ≡ g = rw (v .long, c, e) in
+      let k : legacyGround b at ≡ g = rw c in
+      ap (λ (x : Ground). legacyFound a at i (whereOf a 31 x)) h
+      ∙ ap (legacyFound a at i) (where-same a b 31 g (v .long))
+      ∙ same-found b 16 31 low high (legacyFound a at i) (legacyFound b at i) at (legacyPlace r)
+      (ap (λ (n : ℕ). gives (rec.Legacy (legacyOf i n))) e)
+      (λ w. ap (λ (x : Legacy). gives (rec.Legacy x)) (legacy-large a b (legacyPlace r) i (agrees v (legacyPlace r) 31 w)))
+      (λ k. refl) (overflowed (r .flags)) q
+      ∙ ap (λ (x : Ground). legacyFound b at i (whereOf b 31 x)) (sym k)
+
+  -- modern likewise
+  modern-by : (at : ℕ) (cut : Bool) → ltb (length b) (at + 12) ≡ cut → groundMeets 12 37 low high (modernGround b at) ≡ false → modernAt a at i ≡ modernAt b at i
+  unfolding modernAt modernWhere modernGround groundBy whereOf
+  modern-by at true c o = rw (v .long, c)
+  modern-by at false c o =
+      let r = modernOf 0 (leAt b at 12) in
+      let g = cond (overflowed (r .flags)) (ground.Large at (modernPlace r)) (ground.Inline at) in
+      let q : groundMeets 12 37 low high g ≡ false = rw c at o in
+      let e : leAt a at 12 ≡ leAt b at 12 = same-num (agrees v at 12 (own-apart 12 37 low high at (modernPlace r) (overflowed (r .flags)) q)) at 12 (le-refl at) (le-refl (at + 12)) in
+      let h : modernGround a at ≡ g = rw (v .long, c, e) in
+      let k : modernGround b at ≡ g = rw c in
+      ap (λ (x : Ground). modernFound a at i (whereOf a 37 x)) h
+      ∙ ap (modernFound a at i) (where-same a b 37 g (v .long))
+      ∙ same-found b 12 37 low high (modernFound a at i) (modernFound b at i) at (modernPlace r)
+      (ap (λ (n : ℕ). gives (rec.Modern (modernOf i n))) e)
+      (λ w. ap (λ (x : Modern). gives (rec.Modern x)) (modern-large a b (modernPlace r) i (agrees v (modernPlace r) 37 w)))
+      (λ k. refl) (overflowed (r .flags)) q
+      ∙ ap (λ (x : Ground). modernFound b at i (whereOf b 37 x)) (sym k)
+
+  pub function-same : (layout : Layout) (start : ℕ) → meets b layout start low high i ≡ false → functionAt a layout start i ≡ functionAt b layout start i
+  unfolding meets groundAt functionAt
+  function-same lay.Legacy16 start m = legacy-by (start + i * 16) (ltb (length b) (start + i * 16 + 16)) refl m
+  function-same lay.Modern12 start m = modern-by (start + i * 12) (ltb (length b) (start + i * 12 + 12)) refl m
+
+-- ---- a function that is read has its header in the file
+
+legacy-ends : (s : List ℕ) (at i : ℕ) (cut : Bool) → ltb (length s) (at + 16) ≡ cut → asked (legacyAt s at i) ≡ gives tt → at + 16 ≤ length s
+unfolding legacyAt legacyWhere legacyGround groundBy whereOf
+legacy-ends s at i true c e =
+    let f : asked (legacyFound s at i (wh.Refused 3)) ≡ gives tt = rw c at e in
+    let z : _≡_ {A = ℕ} 0 1 = cc in absurd (omega arith)
+legacy-ends s at i false c e = ltb-false _ _ c
+
+modern-ends : (s : List ℕ) (at i : ℕ) (cut : Bool) → ltb (length s) (at + 12) ≡ cut → asked (modernAt s at i) ≡ gives tt → at + 12 ≤ length s
+unfolding modernAt modernWhere modernGround groundBy whereOf
+modern-ends s at i true c e =
+    let f : asked (modernFound s at i (wh.Refused 3)) ≡ gives tt = rw c at e in
+    let z : _≡_ {A = ℕ} 0 1 = cc in absurd (omega arith)
+modern-ends s at i false c e = ltb-false _ _ c
+
+pub ends : (s : List ℕ) (layout : Layout) (start i : ℕ) → asked (functionAt s layout start i) ≡ gives tt → headerAt layout start i + sizeOf layout ≤ length s
+unfolding functionAt
+ends s lay.Legacy16 start i e = legacy-ends s (start + i * 16) i (ltb (length s) (start + i * 16 + 16)) refl e
+ends s lay.Modern12 start i e = modern-ends s (start + i * 12) i (ltb (length s) (start + i * 12 + 12)) refl e

@@ -1,0 +1,9 @@
+pub mod Agree
+pub mod Function
+pub mod Words
+pub mod Scans
+pub mod Accepted
+pub mod Tables
+pub mod Demand3
+pub mod Cases
+pub mod Unique

@@ -1,0 +1,1 @@
+// No code: what the calls on function tables promise together, and one by one. The theorems stand in specs/.

@@ -1,0 +1,233 @@
+// The scopes of the debug section.
+ghost use mathlib.Core.Path.{_≡_};
+ghost use Prim.Native.Nat.{_+_, _^_, _<_};
+ghost use lib.Seq.{sets};
+ghost use Rattle.hbc_io.specs.Outcome.{valued};
+ghost use Rattle.hbc_debug_items.specs.Until.{until, flat};
+ghost use Rattle.hbc_debug_items.specs.Signed.{slebAt};
+ghost use Rattle.hbc_debug_items.proofs.Passes.{Ended};
+ghost use Rattle.hbc_debug_scopes.specs.Scopes.{frontAt, nameCell, CountedScopes, WrittenScopes};
+ghost use Rattle.hbc_debug_scopes.specs.Heads.{headOf, ofHead, wordBits};
+use hbc_debug_items::Failed;
+use hbc_debug_items::ReadHeld;
+use hbc_debug_items::read_bits;
+use hbc_debug_items::rows::put_row;
+use hbc_io::Cursor;
+use hbc_io::refuse;
+
+// The words of a scope's row, and which they are.
+pub const SCOPE_WORDS: usize = 5;
+
+pub const SCOPE_OFFSET: usize = 0;
+
+pub const SCOPE_PARENT: usize = 1;
+
+pub const SCOPE_FLAGS: usize = 2;
+
+pub const SCOPE_FIRST: usize = 3;
+
+pub const SCOPE_COUNT: usize = 4;
+
+// The word for no parent, and for a name out of range.
+pub const NONE: u32 = 0xFFFF_FFFF;
+
+// What stands before a scope's names, as its row has it.
+pub struct Head {
+    pub parent: u32,
+    pub flags: u32,
+    pub count: usize,
+}
+
+pub enum ReadHead {
+    Got(Head, Cursor),
+    Refused(Failed, Cursor),
+}
+
+// How many names there were, and where reading goes on.
+pub struct Names {
+    pub count: usize,
+    pub next: Cursor,
+}
+
+// How many scopes there are, and how many names in all.
+pub struct ScopeCounts {
+    pub scopes: usize,
+    pub names: usize,
+}
+
+// A number below `most`, or the word for none.
+fn word_below(bits: u64, most: u32) -> u32
+    ensures { λ r. ⌜ r ≡ wordBits most bits ⌝ }
+{
+    if bits < (most as u64) {
+        bits as u32
+    } else {
+        NONE
+    }
+}
+
+fn read_head(s: &[u8], c: Cursor) -> ReadHead
+    ensures { λ r. ⌜ ofHead r ≡ valued headOf (frontAt (now (s .entry)) c) ⌝ }
+{
+    match read_bits(s, c) {
+        ReadHeld::Refused(r, left) => ReadHead::Refused(Failed { refusal: r }, left),
+        ReadHeld::Got(parent, c1) => match read_bits(s, c1) {
+            ReadHeld::Refused(r, left) => ReadHead::Refused(Failed { refusal: r }, left),
+            ReadHeld::Got(flags, c2) => match read_bits(s, c2) {
+                ReadHeld::Refused(r, left) => ReadHead::Refused(Failed { refusal: r }, left),
+                ReadHeld::Got(count, c3) => {
+                    if count.bits <= ((s.len() - c3.at) as u64) {
+                        return ReadHead::Got(
+                            Head {
+                                parent: word_below(parent.bits, NONE),
+                                flags: (flags.bits % 0x1_0000_0000) as u32,
+                                count: count.bits as usize,
+                            },
+                            c3,
+                        );
+                    }
+                    ReadHead::Refused(
+                        Failed {
+                            refusal: refuse(3, 0),
+                        },
+                        c3,
+                    )
+                }
+            },
+        },
+    }
+}
+
+// Passes over at most `count` names.
+fn count_names(s: &[u8], c: Cursor, count: usize) -> Names
+    ensures { λ r. ⌜ Ended (slebAt (now (s .entry))) count c (r .count) (r .next) ⌝ }
+{
+    let mut here = c;
+    let mut left = count;
+    let mut n: usize = 0;
+    while 0 < left {
+        match read_bits(s, here) {
+            ReadHeld::Refused(r, end) => {
+                return Names {
+                    count: n,
+                    next: end,
+                };
+            }
+            ReadHeld::Got(_, next) => {
+                here = next;
+                n += 1;
+                left -= 1;
+            }
+        }
+    }
+    Names {
+        count: n,
+        next: here,
+    }
+}
+
+// Writes at most `count` names from `at` on.
+fn write_names(
+    s: &[u8],
+    c: Cursor,
+    count: usize,
+    strings: u32,
+    names: &mut [u32],
+    at: usize,
+) -> Names
+    requires { ⌜ at + count < 2 ^ 64 ⌝ }
+    ensures { λ r. ⌜ Ended (slebAt (now (s .entry))) count c (r .count) (r .next) ⌝ }
+    ensures { λ r. ⌜ now (names .exit) ≡ sets (now (names .entry)) at (flat (nameCell strings) (until (slebAt (now (s .entry))) count c)) ⌝ }
+{
+    let mut here = c;
+    let mut left = count;
+    let mut n: usize = 0;
+    let mut to = at;
+    while 0 < left {
+        match read_bits(s, here) {
+            ReadHeld::Refused(r, end) => {
+                return Names {
+                    count: n,
+                    next: end,
+                };
+            }
+            ReadHeld::Got(name, next) => {
+                let row = [word_below(name.bits, strings)];
+                put_row(names, to, &row);
+                here = next;
+                n += 1;
+                to += 1;
+                left -= 1;
+            }
+        }
+    }
+    Names {
+        count: n,
+        next: here,
+    }
+}
+
+// How many scopes a part has, and how many names in all.
+pub fn count_scopes(s: &[u8]) -> ScopeCounts
+    ensures { λ r. ⌜ CountedScopes (now (s .entry)) (r .scopes) (r .names) ⌝ }
+{
+    let mut here = Cursor { at: 0 };
+    let mut left = s.len();
+    let mut n: usize = 0;
+    let mut first: usize = 0;
+    while 0 < left {
+        match read_head(s, here) {
+            ReadHead::Refused(r, _) => {
+                return ScopeCounts {
+                    scopes: n,
+                    names: first,
+                };
+            }
+            ReadHead::Got(h, c1) => {
+                let k = count_names(s, c1, h.count);
+                let next = k.next;
+                here = next;
+                n += 1;
+                first += k.count;
+                left -= 1;
+            }
+        }
+    }
+    ScopeCounts {
+        scopes: n,
+        names: first,
+    }
+}
+
+// Writes a row a scope, and the names, each below `strings` or none.
+pub fn write_scopes(s: &[u8], strings: u32, rows: &mut [u32], names: &mut [u32])
+    ensures { λ r. ⌜ WrittenScopes (now (s .entry)) strings (now (rows .entry)) (now (names .entry)) (now (rows .exit)) (now (names .exit)) ⌝ }
+{
+    let mut here = Cursor { at: 0 };
+    let mut left = s.len();
+    let mut at: usize = 0;
+    let mut first: usize = 0;
+    while 0 < left {
+        match read_head(s, here) {
+            ReadHead::Refused(r, _) => {
+                return;
+            }
+            ReadHead::Got(h, c1) => {
+                let k = write_names(s, c1, h.count, strings, names, first);
+                let row = [
+                    here.at as u32,
+                    h.parent,
+                    h.flags,
+                    first as u32,
+                    k.count as u32,
+                ];
+                put_row(rows, at, &row);
+                let next = k.next;
+                here = next;
+                at += SCOPE_WORDS;
+                first += k.count;
+                left -= 1;
+            }
+        }
+    }
+}

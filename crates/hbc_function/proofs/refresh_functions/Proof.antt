@@ -1,0 +1,101 @@
+use mathlib.Core.Path.{ap, _∙_}
+use native.Mathlib.Omega.{arith}
+use Rattle.hbc_io.specs.Outcome.{refusalAt}
+use Rattle.hbc_header.specs.Answer.{refuses}
+use Rattle.hbc_function.specs.Laws.{fresh-long, fresh-past, fresh-reversed, fresh-outside, fresh-small, fresh-cut, fresh-done, fresh-stopped}
+use borrow.Author.Needs.{needs}
+use Rattle.hbc_function.proofs.refresh_functions.Statement.{statement}
+use Rattle.hbc_function.proofs.refresh_functions.Tie as tie
+
+refuse-requires : tie.Need-refuse-requires
+refuse-requires c κs = search needs
+
+returns : tie.Need-returns
+returns c = fresh-long (ap refuses (c .refuse .ensures)) (omega arith)
+
+refuse-requires-2 : tie.Need-refuse-requires-2
+refuse-requires-2 c κs = search needs
+
+returns-2 : tie.Need-returns-2
+returns-2 c = fresh-past (omega arith) (ap refuses (c .refuse2 .ensures)) (omega arith)
+
+refuse-requires-3 : tie.Need-refuse-requires-3
+refuse-requires-3 c κs = search needs
+
+returns-3 : tie.Need-returns-3
+returns-3 c = fresh-reversed (omega arith) (omega arith) (ap refuses (c .refuse3 .ensures)) (omega arith)
+
+refuse-requires-4 : tie.Need-refuse-requires-4
+refuse-requires-4 c κs = search needs
+
+returns-4 : tie.Need-returns-4
+returns-4 c = fresh-outside (omega arith) (omega arith) (omega arith) (ap refuses (c .refuse4 .ensures)) (omega arith)
+
+mul-if5 : tie.Need-mul-if5
+mul-if5 c = search needs
+
+refuse-requires-5 : tie.Need-refuse-requires-5
+refuse-requires-5 c κs = search needs
+
+returns-5 : tie.Need-returns-5
+returns-5 c = fresh-small (omega arith) (omega arith) (omega arith) (omega arith) (ap refuses (c .refuse5 .ensures)) (omega arith)
+
+room-for-requires : tie.Need-room-for-requires
+room-for-requires c κs = search needs
+
+cast-refuse : tie.Need-cast-refuse
+cast-refuse c = search needs
+
+refuse-requires-6 : tie.Need-refuse-requires-6
+refuse-requires-6 c κs = search needs
+
+returns-6 : tie.Need-returns-6
+returns-6 c = fresh-cut (omega arith) (omega arith) (omega arith) (omega arith) (omega arith) (ap refuses (c .refuse6 .ensures ∙ ap (refusalAt 3) (c .before .before .room-for .ensures))) (omega arith)
+
+check-met-requires : tie.Need-check-met-requires
+check-met-requires c κs = search needs
+
+enum-told : tie.Need-enum-told
+enum-told c = search needs
+
+patch-all-requires : tie.Need-patch-all-requires
+patch-all-requires c κs = search needs
+
+enum-told-2 : tie.Need-enum-told-2
+enum-told-2 c = search needs
+
+same-length : tie.Need-same-length
+same-length c = search needs
+
+returns-7 : tie.Need-returns-7
+returns-7 c = fresh-done (omega arith) (omega arith) (omega arith) (omega arith) (omega arith) (omega arith) (c .before .before .before .before .before .before .check-met .ensures) (c .before .before .before .before .enum-told .given .1) (c .before .before .patch-all .ensures)
+
+returns-8 : tie.Need-returns-8
+returns-8 c = fresh-stopped (omega arith) (omega arith) (omega arith) (omega arith) (omega arith) (omega arith) (c .before .before .check-met .ensures) (c .enum-told2 .given .1)
+
+pub refresh-functions-spec : {M : Type 1} → statement M
+refresh-functions-spec =
+    tie.close
+    (tie.spec
+    refuse-requires
+    returns
+    refuse-requires-2
+    returns-2
+    refuse-requires-3
+    returns-3
+    refuse-requires-4
+    returns-4
+    mul-if5
+    refuse-requires-5
+    returns-5
+    room-for-requires
+    cast-refuse
+    refuse-requires-6
+    returns-6
+    check-met-requires
+    enum-told
+    patch-all-requires
+    enum-told-2
+    same-length
+    returns-7
+    returns-8)

@@ -1,0 +1,43 @@
+use mathlib.Core.Path.{ap, _∙_}
+use Rattle.hbc_header.specs.Answer.{refuses, asked}
+use Rattle.hbc_header.specs.Laws.{modern-is}
+use borrow.Author.Needs.{needs}
+use Rattle.hbc_header.proofs.find.modern_check.Statement.{statement}
+use Rattle.hbc_header.proofs.find.modern_check.Tie as tie
+
+modern-where-requires : tie.Need-modern-where-requires
+modern-where-requires c κs = search needs
+
+enum-told : tie.Need-enum-told
+enum-told c = search needs
+
+enum-told-2 : tie.Need-enum-told-2
+enum-told-2 c = search needs
+
+enum-known-number : tie.Need-enum-known-number
+enum-known-number c = search needs
+
+refuse-requires : tie.Need-refuse-requires
+refuse-requires c κs = search needs
+
+returns : tie.Need-returns
+returns c = ap asked (modern-is _ _ (c .before .before .modern-where .ensures) _ (c .enum-told .given .1))
+
+returns-2 : tie.Need-returns-2
+returns-2 c = ap asked (modern-is _ _ (c .before .before .modern-where .ensures) _ (c .enum-told2 .given .1))
+
+returns-3 : tie.Need-returns-3
+returns-3 c = ap refuses (c .refuse .ensures) ∙ ap asked (modern-is _ _ (c .before .before .before .before .modern-where .ensures) _ (c .before .before .number .given .1))
+
+pub modern-check-spec : {M : Type 1} → statement M
+modern-check-spec =
+    tie.close
+    (tie.spec
+    modern-where-requires
+    enum-told
+    enum-told-2
+    enum-known-number
+    refuse-requires
+    returns
+    returns-2
+    returns-3)

@@ -1,0 +1,25 @@
+use Rattle.hbc_io.specs.Answers.{ofU64}
+use Rattle.hbc_io.proofs.Reading.{found}
+use Rattle.hbc_io.proofs.Plains.{plain-value, plain-there}
+use native.Mathlib.Omega.{arith}
+use borrow.Author.Needs.{needs}
+use Rattle.hbc_header.proofs.words.u64_at.Statement.{statement}
+use Rattle.hbc_header.proofs.words.u64_at.Tie as tie
+
+read-u64-requires : tie.Need-read-u64-requires
+read-u64-requires c κs = search needs
+
+enum-known-v : tie.Need-enum-known-v
+enum-known-v c = search needs
+
+enum-told : tie.Need-enum-told
+enum-told c = search needs
+
+returns : tie.Need-returns
+returns c = plain-value 8 _ _ (found ofU64 (c .before .before .before .read-u64 .ensures) (c .before .v .given .1))
+
+returns-2 : tie.Need-returns-2
+returns-2 c = absurd (plain-there 8 _ _ (omega arith) (omega arith) (found ofU64 (c .before .before .read-u64 .ensures) (c .enum-told .given .1)))
+
+pub u64-at-spec : {M : Type 1} → statement M
+u64-at-spec = tie.close (tie.spec read-u64-requires enum-known-v enum-told returns returns-2)

@@ -1,0 +1,7 @@
+pub mod Inside
+pub mod Answer
+pub mod Record
+pub mod Header
+pub mod Row
+pub mod Laws
+pub mod Copy

@@ -1,0 +1,138 @@
+// The records of the two layouts, inline and large, and the packed place. The fields stand in the order of the header.
+ghost use mathlib.Core.Path.{_≡_};
+ghost use Prim.Native.Nat.{_+_, _*_, _^_, _≤_, _<_};
+ghost use lib.ListN.{length};
+ghost use Rattle.hbc_header.specs.Record.{legacyOf, modernOf, legacyLarge, modernLarge, legacyPlace, modernPlace, overflowed};
+use crate::Legacy;
+use crate::Modern;
+use crate::words::cut;
+use crate::words::u8_at;
+use crate::words::u32_at;
+use hbc_bits::bits;
+use hbc_io::LIMIT;
+
+// The inline legacy record of 16 bytes, lo + 2^64 * hi.
+pub(crate) fn legacy_inline(lo: u64, hi: u64, id: u32) -> Legacy
+    ensures { λ r. ⌜ r ≡ legacyOf id (lo + 2 ^ 64 * hi) ⌝ }
+{
+    Legacy {
+        id,
+        offset: cut(lo, hi, 0, 25),
+        param_count: cut(lo, hi, 25, 7),
+        size: cut(lo, hi, 32, 15),
+        name: cut(lo, hi, 47, 17),
+        info_offset: cut(lo, hi, 64, 25),
+        frame_size: cut(lo, hi, 89, 7),
+        environment_size: cut(lo, hi, 96, 8),
+        read: cut(lo, hi, 104, 8),
+        write: cut(lo, hi, 112, 8),
+        flags: cut(lo, hi, 120, 8),
+    }
+}
+
+// The inline modern record of 12 bytes, lo + 2^64 * hi.
+pub(crate) fn modern_inline(lo: u64, hi: u64, id: u32) -> Modern
+    ensures { λ r. ⌜ r ≡ modernOf id (lo + 2 ^ 64 * hi) ⌝ }
+{
+    Modern {
+        id,
+        offset: cut(lo, hi, 0, 25),
+        param_count: cut(lo, hi, 25, 5),
+        loop_depth: cut(lo, hi, 30, 2),
+        size: cut(lo, hi, 32, 14),
+        name: cut(lo, hi, 46, 8),
+        number_reg: cut(lo, hi, 54, 5),
+        non_ptr_reg: cut(lo, hi, 59, 5),
+        frame_size: cut(lo, hi, 64, 8),
+        read_cache: cut(lo, hi, 72, 8),
+        write_cache: cut(lo, hi, 80, 6),
+        new_object: cut(lo, hi, 86, 1),
+        private_name: cut(lo, hi, 87, 1),
+        flags: cut(lo, hi, 88, 8),
+        info_offset: 0,
+    }
+}
+
+// The large legacy record of 31 bytes: seven u32, three bytes.
+pub(crate) fn legacy_large(s: &[u8], at: usize, id: u32) -> Legacy
+    requires { ⌜ (at + 31 ≤ length (now s)) × (length (now s) ≤ 2 ^ 30) ⌝ }
+    ensures { λ r. ⌜ r ≡ legacyLarge (now (s .entry)) at id ⌝ }
+{
+    // never so, by what is required: tests that let the compiler drop those of each read
+    if s.len() > LIMIT {
+        return legacy_inline(0, 0, id);
+    }
+    if at > s.len() {
+        return legacy_inline(0, 0, id);
+    }
+    if s.len() - at < 31 {
+        return legacy_inline(0, 0, id);
+    }
+    Legacy {
+        id,
+        offset: u32_at(s, at),
+        param_count: u32_at(s, at + 4),
+        size: u32_at(s, at + 8),
+        name: u32_at(s, at + 12),
+        info_offset: u32_at(s, at + 16),
+        frame_size: u32_at(s, at + 20),
+        environment_size: u32_at(s, at + 24),
+        read: u8_at(s, at + 28) as u32,
+        write: u8_at(s, at + 29) as u32,
+        flags: u8_at(s, at + 30) as u32,
+    }
+}
+
+// The large modern record of 37 bytes: eight u32, five bytes.
+pub(crate) fn modern_large(s: &[u8], at: usize, id: u32) -> Modern
+    requires { ⌜ (at + 37 ≤ length (now s)) × (length (now s) ≤ 2 ^ 30) ⌝ }
+    ensures { λ r. ⌜ r ≡ modernLarge (now (s .entry)) at id ⌝ }
+{
+    // never so, by what is required: tests that let the compiler drop those of each read
+    if s.len() > LIMIT {
+        return modern_inline(0, 0, id);
+    }
+    if at > s.len() {
+        return modern_inline(0, 0, id);
+    }
+    if s.len() - at < 37 {
+        return modern_inline(0, 0, id);
+    }
+    Modern {
+        id,
+        offset: u32_at(s, at),
+        param_count: u32_at(s, at + 4),
+        loop_depth: u32_at(s, at + 8),
+        size: u32_at(s, at + 12),
+        name: u32_at(s, at + 16),
+        number_reg: u32_at(s, at + 20),
+        non_ptr_reg: u32_at(s, at + 24),
+        frame_size: u32_at(s, at + 28),
+        read_cache: u8_at(s, at + 32) as u32,
+        write_cache: u8_at(s, at + 33) as u32,
+        new_object: u8_at(s, at + 34) as u32,
+        private_name: u8_at(s, at + 35) as u32,
+        flags: u8_at(s, at + 36) as u32,
+        info_offset: ((at + 37 + 3) / 4 * 4) as u32,
+    }
+}
+
+// The overflow flag: bit 5.
+pub(crate) fn overflows(flags: u32) -> bool
+    ensures { λ r. ⌜ r ≡ overflowed flags ⌝ }
+{
+    bits(flags as u64, 5, 1) == 1
+}
+
+// Where a flagged header's large one is: the parts or-ed, for they overlap.
+pub(crate) fn legacy_place(r: Legacy) -> usize
+    ensures { λ p. ⌜ p ≡ legacyPlace r ⌝ }
+{
+    (r.info_offset as usize) * 0x10000 | (r.offset as usize)
+}
+
+pub(crate) fn modern_place(r: Modern) -> usize
+    ensures { λ p. ⌜ p ≡ modernPlace r ⌝ }
+{
+    (r.name as usize) * 0x100_0000 | (r.offset as usize) % 0x100_0000
+}

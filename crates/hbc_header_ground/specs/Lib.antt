@@ -1,0 +1,2 @@
+pub mod Meets
+pub mod Laws

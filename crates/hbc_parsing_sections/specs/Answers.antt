@@ -1,0 +1,29 @@
+-- What each case of an answer of src/ says: what was found, or the refusal; and the cursor, where there is one.
+use Rattle.hbc_io.specs.Outcome.{Outcome, got, refused}
+use Rattle.hbc_header.specs.Answer.{Answer, gives, refuses}
+use Rattle.hbc_parsing_sections.specs.declared.Section.{Section}
+use Rattle.hbc_parsing_sections.specs.declared.Sources.{Sources}
+use Rattle.hbc_parsing_sections.specs.declared.Sections.{Sections}
+use Rattle.hbc_parsing_sections.specs.declared.ReadSection.{ReadSection}
+use Rattle.hbc_parsing_sections.specs.declared.ReadSection.the-variants as one
+use Rattle.hbc_parsing_sections.specs.declared.ReadSources.{ReadSources}
+use Rattle.hbc_parsing_sections.specs.declared.ReadSources.the-variants as sources
+use Rattle.hbc_parsing_sections.specs.declared.ReadSections.{ReadSections}
+use Rattle.hbc_parsing_sections.specs.declared.ReadSections.the-variants as all
+
+abbrev pub ofSection : ReadSection → Outcome Section
+ofSection (one.Got s n) = got s n
+ofSection (one.Refused r n) = refused r n
+
+abbrev pub ofSources : ReadSources → Outcome Sources
+ofSources (sources.Got s n) = got s n
+ofSources (sources.Refused r n) = refused r n
+
+abbrev pub ofSections : ReadSections → Answer Sections
+ofSections (all.Got s) = gives s
+ofSections (all.Refused r) = refuses r
+
+-- what a read found, without its cursor
+abbrev pub told : {A : Type 0} → Outcome A → Answer A
+told (got v n) = gives v
+told (refused r n) = refuses r

@@ -1,0 +1,4 @@
+pub mod Answers
+pub mod Sections
+pub mod Laws
+pub mod Laid
