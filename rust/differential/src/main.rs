@@ -4,6 +4,8 @@
 use std::process::ExitCode;
 
 #[cfg(all(published, archive))]
+mod buffer;
+#[cfg(all(published, archive))]
 mod debug;
 #[cfg(all(published, archive))]
 mod function;
@@ -15,6 +17,10 @@ mod lent;
 mod parsing;
 #[cfg(all(published, archive))]
 mod run;
+#[cfg(all(published, archive))]
+mod search;
+#[cfg(all(published, archive))]
+mod shown;
 #[cfg(all(published, archive))]
 mod table;
 #[cfg(all(published, archive))]
@@ -35,6 +41,12 @@ fn main() -> ExitCode {
             compare: table::compare,
             record: None,
             replay: table::replay,
+        },
+        Layer {
+            name: "buffer",
+            compare: buffer::compare,
+            record: None,
+            replay: buffer::replay,
         },
         Layer {
             name: "function",

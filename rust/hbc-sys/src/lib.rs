@@ -40,6 +40,10 @@ extern "C" {
     pub fn hbc_decode_strings(count: u32, kinds: *const u32, kinds_len: usize, small: *const u32, small_len: usize, overflow: *const u32, overflow_len: usize, storage: *const u8, storage_len: usize, rows: *mut u32, rows_len: usize) -> u64;
     pub fn hbc_string_bytes(storage: *const u8, storage_len: usize, rows: *const u32, rows_len: usize, index: usize, start: *mut usize, len: *mut usize);
 
+    pub fn hbc_read_literal(s: *const u8, s_len: usize, at: *mut usize, tag: u8, kind: *mut u32, number: *mut f64, word: *mut u32) -> u64;
+    pub fn hbc_read_series(s: *const u8, s_len: usize, offset: u32, count: u32, kinds: *mut u32, kinds_len: usize, payloads: *mut u64, payloads_len: usize) -> u64;
+    pub fn hbc_read_object(keys: *const u8, keys_len: usize, values: *const u8, values_len: usize, yes: u32, offset: u32, count: u32, kinds: *mut u32, kinds_len: usize, payloads: *mut u64, payloads_len: usize) -> u64;
+
     pub fn hbc_read_functions(file: *const u8, file_len: usize, layout: u32, start: usize, count: u32, table: *mut u32, table_len: usize) -> u64;
     pub fn hbc_refresh_functions(file: *const u8, file_len: usize, layout: u32, start: usize, count: u32, low: usize, high: usize, table: *mut u32, table_len: usize) -> u64;
     pub fn hbc_read_function(file: *const u8, file_len: usize, layout: u32, start: usize, id: u32, table: *mut u32, table_len: usize) -> u64;

@@ -6,10 +6,10 @@ use published::file::parser::table::*;
 use published::file::structure::StringKindType;
 use published::io::ByteReader;
 
-use super::{argued, argument, difference, said, PRINTED};
 use crate::io::LIMIT;
 use crate::lent::{Lent, Reserved};
 use crate::run::{number as parsed, Difference};
+use crate::shown::{argued, argument, difference, said, PRINTED};
 
 #[derive(Clone, Copy, PartialEq, Eq, Debug)]
 pub enum Op {
@@ -190,7 +190,7 @@ impl Case<'_> {
             lent,
         } = self;
         let bytes = input.len();
-        let replay = || format!("{op:?} {at} {count} {lent} {}", argument(input));
+        let replay = || format!("table {op:?} {at} {count} {lent} {}", argument(input));
         difference(
             format!("{op:?} at {at}, {count} entries into {lent} words, {bytes} bytes of input"),
             &expected.words(),

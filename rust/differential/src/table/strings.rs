@@ -6,10 +6,12 @@ use published::file::parser::table::{decode_string_table, parse_string_kinds};
 use published::file::structure::{StringKindEntry, StringTableEntry};
 use published::io::ByteReader;
 
-use super::{argued, argument, bytes_of, difference, said, words_of, PRINTED};
+use super::{bytes_of, words_of};
 use crate::io::LIMIT;
 use crate::lent::Lent;
 use crate::run::{number as parsed, Difference};
+use crate::search::last;
+use crate::shown::{argued, argument, difference, said, PRINTED};
 
 /// Words in a row.
 pub const ROW: usize = 4;
@@ -148,24 +150,11 @@ impl Case<'_> {
         Ok(())
     }
 
-    /// The string whose pair is missing: so many the Rust still decodes, and not one more. `guess` is looked at first.
+    /// The string whose pair is missing: so many the Rust still decodes, and not one more.
     fn first_missing(&self, runs: &[StringKindEntry], guess: u32) -> u32 {
+        let strings = self.strings() as u32;
         let decodes = |count| rust(self, runs, count).map_err(missing).is_ok();
-        let (mut decoded, mut refused) = (0, self.strings() as u32);
-        let mut middle = guess;
-        while refused - decoded > 1 {
-            if middle <= decoded || middle >= refused {
-                middle = decoded + (refused - decoded) / 2;
-            }
-            if decodes(middle) {
-                decoded = middle;
-                middle += 1;
-            } else {
-                refused = middle;
-                middle -= 1;
-            }
-        }
-        decoded
+        last(0..strings, guess, decodes)
     }
 
     fn difference(&self, number: u32, place: u32, given: String) -> Difference {
@@ -176,7 +165,7 @@ impl Case<'_> {
         let replay = || {
             let [kinds, small, overflow] = tables.map(|words| argument(&bytes_of(words)));
             let storage = argument(self.storage);
-            format!("Strings {count} {lent} {kinds} {small} {overflow} {storage}")
+            format!("table Strings {count} {lent} {kinds} {small} {overflow} {storage}")
         };
         difference(
             format!("Strings, {count} of {small} entries, {kinds} runs, {overflow} overflow words, {bytes} bytes, {lent} words lent"),
@@ -223,7 +212,7 @@ pub fn compare_bytes(storage: &[u8], rows: &[u32], index: usize) -> Result<(), D
     let (words, bytes) = (rows.len(), storage.len());
     let replay = || {
         let rows = argument(&bytes_of(rows));
-        format!("StringBytes {index} {rows} {}", argument(storage))
+        format!("table StringBytes {index} {rows} {}", argument(storage))
     };
     Err(difference(
         format!("StringBytes, row {index} of {words} words, {bytes} bytes"),
