@@ -14,9 +14,9 @@ use Rattle.hbc_buffer_literal.specs.Literal.{widthOf, literalOf, kindOf}
 use Rattle.hbc_buffer_literal.proofs.Laws.{width-most, kind-any}
 use Rattle.hbc_buffer.specs.declared.Series.the-variants as series
 use Rattle.hbc_buffer.specs.Series.{Run, runOf, tagAt, headAt, after, usedOf, valueAt, kindAt, payloadAt, filled}
-use Rattle.hbc_buffer.specs.Fill.{byteAt, filledFrom, Whole}
-use Rattle.hbc_buffer.proofs.Fills.{from-filled}
-use Rattle.hbc_buffer.proofs.Tags.{On, tag-on, tag-cut, head-here, head-skip, head-no}
+use Rattle.hbc_buffer.specs.Fill.{byteAt, lengthOf, filledFrom, Whole}
+use Rattle.hbc_buffer.proofs.Fills.{from-filled, small-product}
+use Rattle.hbc_buffer.proofs.Tags.{On, tag-on, tag-cut, short-tag, short-length, head-here, head-skip, head-no}
 use Rattle.hbc_buffer.proofs.Runs.{Ready, ready-head, after-none, refused-stays, run-past, run-cut, run-value}
 
 -- `done` of `count` values are read, the run is spent, and only empty tags stand between its end and `at`
@@ -49,10 +49,6 @@ passed-first s from count h =
       up = omega arith;
       within = h;
     }
-
--- the product of a run's length and a width is no great number
-pub product : (n t : ℕ) → n < 4294967296 → n * widthOf t < 34359738369
-product n t h = omega (arith, mul-le-mul {n₁ = n} {m₁ = widthOf t} {n₂ = 4294967295} {m₂ = 8} (omega arith) (width-most t))
 
 -- a width that a product is above something with
 pub positive : (m w r : ℕ) → r < m * w → 0 < w
@@ -203,3 +199,53 @@ module _ {s : List ℕ} {from count done at : ℕ} (g : Passed s from count done
 -- all values are read
 pub passed-all : {s : List ℕ} {from count done at : ℕ} → Passed s from count done at → done ≡ count → series.Used (at - from) ≡ usedOf from (after count s (cursorAt from))
 passed-all g e = rw (← e, g .is, g .here (λ z. omega (arith, e, z)))
+
+-- ---- the same tag again
+
+-- what is kept of the last run: its tag byte, and the length and width that are that byte's own if it has one byte and values are left
+pub record Known (count done last size wide : ℕ) : Type 0 where
+  pub is : done < count → last < 128 → (size ≡ field 0 4 last) × (wide ≡ widthOf (field 4 3 last))
+  pub small : size < 4294967296
+  pub narrow : wide ≤ 8
+
+pub known-first : (count : ℕ) → Known count 0 256 0 0
+known-first count = record { is = λ some low. absurd (omega (arith, low)); small = omega arith; narrow = omega arith }
+
+pub known-next : {count done : ℕ} (b y : ℕ) {l n w : ℕ} → done < count → count < 4294967296 → l ≡ lengthOf b y → n ≡ min l (count - done) → w ≡ widthOf (field 4 3 b) → Known count (done + n) b n w
+known-next b y {l} {n} {w} some most len least wide =
+    record {
+      is = λ more low. let e = short-length b y len low in (omega (arith, e, least, more), wide);
+      small = omega (arith, least, most);
+      narrow = rw wide (width-most (field 4 3 b));
+    }
+
+pub known-again : {count done last size wide : ℕ} → Known count done last size wide → done < count → Known count (done + size) last size wide
+known-again k some = record { is = λ more low. k .is some low; small = k .small; narrow = k .narrow }
+
+module _ {s : List ℕ} {from count done at : ℕ} (g : Passed s from count done at) (some : done < count) (short : length s ≤ limit)
+    {last size wide : ℕ} (k : Known count done last size wide) {b : ℕ} (first : b ≡ byteAt s at) (spare : ℕ)
+    (a : (b ≡ last) × (b < 128) × (size ≤ count - done) × (spare + (1 + size * wide) ≤ length s - at)) where
+  known : (size ≡ field 0 4 b) × (wide ≡ widthOf (field 4 3 b))
+  known = rw (a .0) (k .is some (rw (← a .0) (a .1)))
+
+  there : tagAt s (cursorAt at) ≡ got (runOf (field 4 3 b) size) (cursorAt (at + 1))
+  there = rw (known .0) (short-tag s at short first (a .1) (omega (arith, a .3, g .within)))
+
+  least : size ≡ min size (count - done)
+  least = omega (arith, a .2)
+
+  room : size * widthOf (field 4 3 b) ≤ length s - (at + 1)
+  room = rw (← known .1) (omega (arith, a .3))
+
+  pub again-more : Passed s from count (done + size) (at + (1 + size * wide))
+  again-more =
+      let e : at + (1 + size * wide) ≡ at + 1 + size * wide = omega arith in
+      rw (e, known .1) (passed-more g some short there size least room)
+
+  pub again-kinds : {t v : ℕ} {x : List ℕ} (x₀ : List ℕ) → t ≡ field 4 3 b → v ≡ kindOf (literalOf t 0) → x ≡ filled done (kindAt s (cursorAt from)) x₀
+      → filledFrom done size (λ _. v) x ≡ filled (done + size) (kindAt s (cursorAt from)) x₀
+  again-kinds x₀ e f h = kinds-more g some short there size least x₀ room (rw e at f) h
+
+  pub again-payloads : {x : List ℕ} (x₀ : List ℕ) → x ≡ filled done (payloadAt s (cursorAt from)) x₀
+      → filledFrom done size (λ i. leAt s (at + 1 + i * wide) wide) x ≡ filled (done + size) (payloadAt s (cursorAt from)) x₀
+  again-payloads x₀ h = rw (known .1) (payloads-more g some short there size least x₀ room h)

@@ -1,6 +1,6 @@
 -- Tags and the next one that has values, case by case.
 use Prim.Native.Nat.{ℕ, zero, suc, _+_, _-_, _*_, _≤_, _<_}
-use mathlib.Core.Path.{_≡_, refl, _∙_}
+use mathlib.Core.Path.{_≡_, refl, sym, ap, _∙_}
 use mathlib.Core.Bool.{Bool, true, false, cond}
 use mathlib.Core.List.{List}
 use native.Mathlib.Omega.{arith}
@@ -9,13 +9,14 @@ use borrow.Author.Tests.{eq-eqb, ne-eqb, eqb-true, eqb-false, le-ltb, lt-ltb}
 use lib.ListN.{length}
 use lib.Dec.{eqb}
 use Rattle.hbc_bits.specs.Bits.{field}
-use Rattle.hbc_bits.specs.Laws.{field-lt}
+use Rattle.hbc_bits.specs.Laws.{field-lt, field-past}
 use Rattle.hbc_io.specs.Outcome.{got, refused, valued, cursorAt, refusal, limit}
 use Rattle.hbc_io.specs.Plain.{plainAt}
 use Rattle.hbc_io.specs.declared.Cursor.{Cursor}
 use Rattle.hbc_io.specs.declared.Refusal.{Refusal}
 use Rattle.hbc_io.proofs.Reading.{then-got, valued-got}
 use Rattle.hbc_io.proofs.Plains.{plain-got, plain-is}
+use Rattle.hbc_buffer_literal.specs.Literal.{widthOf}
 use Rattle.hbc_buffer.specs.Fill.{byteAt, lengthOf}
 use Rattle.hbc_buffer.specs.Series.{Run, runOf, lengthAt, tagAt, headAt}
 
@@ -59,6 +60,42 @@ module _ (s : List ℕ) (at : ℕ) (short : length s ≤ limit) {b t h : ℕ} (f
   -- they are cut
   pub tag-cut : at ≤ length s → length s < at + 1 + h → (m : Cursor) × (tagAt s (cursorAt at) ≡ refused (refusal 3) m)
   tag-cut l k = cut-by l k (decLt at (length s))
+
+-- ---- a tag of one byte
+
+module _ (s : List ℕ) (at : ℕ) (short : length s ≤ limit) {b : ℕ} (first : b ≡ byteAt s at) (low : b < 128) where
+  clear : 0 ≡ field 7 1 b
+  clear = field-past 7 7 1 b low (omega arith)
+
+  nibble : (y : ℕ) → field 0 4 b ≡ lengthOf b y
+  unfolding lengthOf
+  nibble y = rw (eq-eqb _ _ (sym clear))
+
+  pub short-tag : at + 1 ≤ length s → tagAt s (cursorAt at) ≡ got (runOf (field 4 3 b) (field 0 4 b)) (cursorAt (at + 1))
+  short-tag l =
+      let k : at + 1 + 0 ≡ at + 1 = omega arith in
+      rw k at (tag-there s at short first refl clear refl (nibble (byteAt s (at + 1))) (omega (arith, l)))
+
+pub short-length : (b y : ℕ) {n : ℕ} → n ≡ lengthOf b y → b < 128 → n ≡ field 0 4 b
+unfolding lengthOf
+short-length b y e low = rw (eq-eqb _ _ (sym (field-past 7 7 1 b low (omega arith)))) at e
+
+-- ---- widths, a nibble for each tag
+
+width-at : (t : ℕ) → t < 8 → field (4 * t) 4 1092911104 ≡ widthOf t
+unfolding field widthOf
+width-at zero h = refl
+width-at (suc zero) h = refl
+width-at (suc (suc zero)) h = refl
+width-at (suc (suc (suc zero))) h = refl
+width-at (suc (suc (suc (suc zero)))) h = refl
+width-at (suc (suc (suc (suc (suc zero))))) h = refl
+width-at (suc (suc (suc (suc (suc (suc zero)))))) h = refl
+width-at (suc (suc (suc (suc (suc (suc (suc zero))))))) h = refl
+width-at (suc (suc (suc (suc (suc (suc (suc (suc t)))))))) h = absurd (omega arith)
+
+pub width-nibble : (b : ℕ) {t r : ℕ} → t ≡ field 4 3 b → r ≡ field (4 * t) 4 1092911104 → r ≡ widthOf (field 4 3 b)
+width-nibble b e f = f ∙ width-at _ (rw e (field-lt 3 4 3 b (omega arith))) ∙ ap widthOf e
 
 -- ---- the next tag with values
 

@@ -3,9 +3,10 @@
 ghost use mathlib.Core.Path.{_≡_};
 ghost use Prim.Native.Nat.{_+_, _*_, _≤_, _<_, _^_, min};
 ghost use lib.ListN.{length};
-ghost use Rattle.hbc_bits.specs.Bits.{leAt};
+ghost use mathlib.Core.Bool.{true};
+ghost use Rattle.hbc_bits.specs.Bits.{leAt, field};
 ghost use Rattle.hbc_io.specs.Outcome.{cursorAt, limit};
-ghost use Rattle.hbc_buffer_literal.specs.Literal.{widthOf};
+ghost use Rattle.hbc_buffer_literal.specs.Literal.{widthOf, literalOf, kindOf};
 ghost use Rattle.hbc_buffer.specs.Series.{after, kindAt, payloadAt, filled, usedOf, ReadSeries};
 ghost use Rattle.hbc_buffer.specs.Fill.{byteAt, lengthOf, filledFrom, Whole};
 use hbc_bits::bits;
@@ -18,6 +19,7 @@ use hbc_io::ReadU8;
 use hbc_io::ReadU64;
 use hbc_io::Refusal;
 use hbc_io::read_u8;
+use hbc_io::read_u64;
 use hbc_io::refuse;
 
 pub enum Series {
@@ -53,6 +55,39 @@ fn least(a: usize, b: usize) -> usize
     if a < b { a } else { b }
 }
 
+// How many bytes a value has that this tag byte speaks of: a nibble for each tag, so that nothing is guessed.
+fn width_of(b: u64) -> usize
+    ensures { λ r. ⌜ r ≡ widthOf (field 4 3 b) ⌝ }
+{
+    bits(0x4124_8000, 4 * (bits(b, 4, 3) as u32), 4) as usize
+}
+
+// Whether a tag byte is the last one again, and its run is there with `spare` bytes more. The next tag's place is then known before this one's
+// length and width are made out.
+fn again(
+    b: u64,
+    last: u64,
+    size: usize,
+    wide: usize,
+    left: usize,
+    room: usize,
+    spare: usize,
+) -> bool
+    requires { ⌜ (size < 2 ^ 32) × (wide ≤ 8) × (spare ≤ 8) ⌝ }
+    ensures { λ r. ⌜ (r ≡ true → (b ≡ last) × (b < 128) × (size ≤ left) × (spare + (1 + size * wide) ≤ room)) ⌝ }
+{
+    if b == last {
+        if b < 128 {
+            if size <= left {
+                if spare + (1 + size * wide) <= room {
+                    return true;
+                }
+            }
+        }
+    }
+    false
+}
+
 // Reads `count` values run by run and writes nothing. A run takes one test, however long it is.
 fn check(s: &[u8], from: usize, count: usize) -> Series
     requires { ⌜ (length (now s) ≤ limit) × (from ≤ length (now s)) × (count < 2 ^ 32) ⌝ }
@@ -60,20 +95,32 @@ fn check(s: &[u8], from: usize, count: usize) -> Series
 {
     let mut at = from;
     let mut done: usize = 0;
+    // the last run: its tag byte, length and width
+    let mut last: u64 = 256;
+    let mut size: usize = 0;
+    let mut wide: usize = 0;
     while done < count {
         let b = byte(s, at);
-        let first = at + 1 + (bits(b, 7, 1) as usize);
-        if s.len() < first {
-            return Series::Refused(refuse(3, done as u32));
+        if again(b, last, size, wide, count - done, s.len() - at, 0) {
+            at += 1 + size * wide;
+            done += size;
+        } else {
+            let first = at + 1 + (bits(b, 7, 1) as usize);
+            if s.len() < first {
+                return Series::Refused(refuse(3, done as u32));
+            }
+            let n = least(length_of(b, byte(s, at + 1)) as usize, count - done);
+            let w = width_of(b);
+            let room = s.len() - first;
+            if room < n * w {
+                return Series::Refused(refuse(3, (done + room / w) as u32));
+            }
+            at = first + n * w;
+            done += n;
+            last = b;
+            size = n;
+            wide = w;
         }
-        let n = least(length_of(b, byte(s, at + 1)) as usize, count - done);
-        let w = width(bits(b, 4, 3));
-        let room = s.len() - first;
-        if room < n * w {
-            return Series::Refused(refuse(3, (done + room / w) as u32));
-        }
-        at = first + n * w;
-        done += n;
     }
     Series::Used((at - from) as u32)
 }
@@ -132,6 +179,68 @@ fn fill_run(s: &[u8], at: usize, tag: u64, table: &mut [u64], first: usize, n: u
     }
 }
 
+// The number of eight bytes that are known to be there.
+fn word(s: &[u8], at: usize) -> u64
+    requires { ⌜ (length (now s) ≤ limit) × (at + 8 ≤ length (now s)) ⌝ }
+    ensures { λ r. ⌜ r ≡ leAt (now (s .entry)) at 8 ⌝ }
+{
+    match read_u64(s, Cursor { at }) {
+        ReadU64::Got(v, _) => v,
+        ReadU64::Refused(_, _) => 0,
+    }
+}
+
+// Both words of n values of one run, each payload cut from eight bytes, so that one loop serves every width.
+fn fill_short(
+    s: &[u8],
+    at: usize,
+    w: usize,
+    k: u32,
+    kinds: &mut [u32],
+    payloads: &mut [u64],
+    first: usize,
+    n: usize,
+)
+    requires { ⌜ (length (now s) ≤ limit) × (at + n * w + 8 ≤ length (now s)) × (w ≤ 8) × (first + n ≤ length (now kinds)) × (first + n ≤ length (now payloads)) ⌝ }
+    ensures { λ _. ⌜ now (kinds .exit) ≡ filledFrom first n (λ _. k) (now (kinds .entry)) ⌝ }
+    ensures { λ _. ⌜ now (payloads .exit) ≡ filledFrom first n (λ i. leAt (now (s .entry)) (at + i * w) w) (now (payloads .entry)) ⌝ }
+{
+    let mut p = at;
+    let mut i: usize = 0;
+    while i < n {
+        kinds[first + i] = k;
+        payloads[first + i] = bits(word(s, p), 0, 8 * (w as u32));
+        p += w;
+        i += 1;
+    }
+}
+
+// Both words of n values of one run: a short one by one loop, a long one by its width.
+fn fill(
+    s: &[u8],
+    at: usize,
+    tag: u64,
+    w: usize,
+    kinds: &mut [u32],
+    payloads: &mut [u64],
+    first: usize,
+    n: usize,
+)
+    requires { ⌜ (length (now s) ≤ limit) × (at + n * widthOf tag ≤ length (now s)) × (w ≡ widthOf tag) × (first + n ≤ length (now kinds)) × (first + n ≤ length (now payloads)) ⌝ }
+    ensures { λ _. ⌜ now (kinds .exit) ≡ filledFrom first n (λ _. kindOf (literalOf tag 0)) (now (kinds .entry)) ⌝ }
+    ensures { λ _. ⌜ now (payloads .exit) ≡ filledFrom first n (λ i. leAt (now (s .entry)) (at + i * widthOf tag) (widthOf tag)) (now (payloads .entry)) ⌝ }
+{
+    let k = kind(tag);
+    if n < 16 {
+        if n * w + 8 <= s.len() - at {
+            fill_short(s, at, w, k, kinds, payloads, first, n);
+            return;
+        }
+    }
+    fill_kinds(kinds, first, n, k);
+    fill_run(s, at, tag, payloads, first, n);
+}
+
 // Writes the values of a series that is known to be whole.
 fn write(s: &[u8], from: usize, count: usize, kinds: &mut [u32], payloads: &mut [u64])
     requires { ⌜ (length (now s) ≤ limit) × (from ≤ length (now s)) × (count < 2 ^ 32) × (count ≤ length (now kinds)) × (count ≤ length (now payloads)) × Whole count (now s) (cursorAt from) ⌝ }
@@ -140,14 +249,28 @@ fn write(s: &[u8], from: usize, count: usize, kinds: &mut [u32], payloads: &mut 
 {
     let mut at = from;
     let mut done: usize = 0;
+    // the last run: its tag byte, length and width
+    let mut last: u64 = 256;
+    let mut size: usize = 0;
+    let mut wide: usize = 0;
     while done < count {
         let b = byte(s, at);
-        let first = at + 1 + (bits(b, 7, 1) as usize);
         let tag = bits(b, 4, 3);
-        let n = least(length_of(b, byte(s, at + 1)) as usize, count - done);
-        fill_kinds(kinds, done, n, kind(tag));
-        at = fill_run(s, first, tag, payloads, done, n);
-        done += n;
+        if again(b, last, size, wide, count - done, s.len() - at, 8) {
+            fill_short(s, at + 1, wide, kind(tag), kinds, payloads, done, size);
+            at += 1 + size * wide;
+            done += size;
+        } else {
+            let first = at + 1 + (bits(b, 7, 1) as usize);
+            let n = least(length_of(b, byte(s, at + 1)) as usize, count - done);
+            let w = width_of(b);
+            fill(s, first, tag, w, kinds, payloads, done, n);
+            at = first + n * w;
+            done += n;
+            last = b;
+            size = n;
+            wide = w;
+        }
     }
 }
 

@@ -1,14 +1,14 @@
 // The table of functions, read into lent rows, and refreshed after a span of the file changed.
 ghost use mathlib.Core.Path.{_≡_};
-ghost use mathlib.Core.Bool.{cond};
 ghost use Prim.Native.Nat.{_+_, _*_, _^_, _≤_, _<_};
 ghost use lib.ListN.{length};
 ghost use Rattle.hbc_header.specs.Answer.{gives, ofReading, asked};
 ghost use Rattle.hbc_header.specs.Header.{functionAt};
 ghost use Rattle.hbc_header.specs.Row.{width};
 ghost use Rattle.hbc_header_ground.specs.Meets.{meets};
-ghost use Rattle.hbc_function.specs.Table.{all, step, scan, putRow, putRows, ReadFunctions};
+ghost use Rattle.hbc_function.specs.Table.{all, scan, putRow, putRows, ReadFunctions};
 ghost use Rattle.hbc_function.specs.Refresh.{ofRefreshed, held, RefreshFunctions};
+ghost use Rattle.hbc_function.specs.Next.{Next};
 use hbc_header::Layout;
 use hbc_header::Reading;
 use hbc_header::WIDTH;
@@ -106,30 +106,30 @@ pub fn read_functions(
     found
 }
 
-// n functions so far, and one more: counted if it meets the span and can be read.
-fn step_at(
+// The first of functions `from` to count - 1 that meets the span, count if none does. Both passes of a refresh go by it, so that the test is in one loop.
+fn next_met(
     s: &[u8],
     layout: Layout,
     start: usize,
     low: usize,
     high: usize,
-    id: u32,
-    n: u32,
-) -> Refreshed
-    requires { ⌜ (start ≤ length (now s)) × (length (now s) ≤ 2 ^ 30) ⌝ }
-    requires { ⌜ (n ≤ id) × (id + 1 < 2 ^ 32) ⌝ }
-    ensures { λ r. ⌜ ofRefreshed r ≡ step (meets (now (s .entry)) layout start low high id) (gives n) (functionAt (now (s .entry)) layout start id) ⌝ }
+    from: u32,
+    count: u32,
+) -> u32
+    requires { ⌜ (length (now s) ≤ 2 ^ 30) × (from ≤ count) ⌝ }
+    ensures { λ r. ⌜ Next (meets (now (s .entry)) layout start low high) from count r ⌝ }
 {
-    if !meets_at(s, layout, start, low, high, id) {
-        return Refreshed::Done(n);
+    let mut id = from;
+    while id < count {
+        if meets_at(s, layout, start, low, high, id) {
+            return id;
+        }
+        id += 1;
     }
-    match check_at(s, layout, start, id) {
-        Reading::Read => Refreshed::Done(n + 1),
-        Reading::Refused(r) => Refreshed::Refused(r),
-    }
+    id
 }
 
-// How many of functions 0 to count - 1 meet the span, or the first refusal among those.
+// How many of functions 0 to count - 1 meet the span, the first of them being given, or the first refusal among those.
 fn check_met(
     s: &[u8],
     layout: Layout,
@@ -137,64 +137,49 @@ fn check_met(
     count: u32,
     low: usize,
     high: usize,
+    first: u32,
 ) -> Refreshed
     requires { ⌜ (start ≤ length (now s)) × (length (now s) ≤ 2 ^ 30) ⌝ }
+    requires { ⌜ Next (meets (now s) layout start low high) 0 count first ⌝ }
     ensures { λ r. ⌜ ofRefreshed r ≡ scan (meets (now (s .entry)) layout start low high) (functionAt (now (s .entry)) layout start) count ⌝ }
 {
     let mut n: u32 = 0;
-    let mut id: u32 = 0;
+    let mut id = first;
     while id < count {
-        match step_at(s, layout, start, low, high, id, n) {
-            Refreshed::Done(k) => {
-                n = k;
-            }
-            Refreshed::Refused(r) => {
-                return Refreshed::Refused(r);
-            }
+        if let Reading::Refused(r) = check_at(s, layout, start, id) {
+            return Refreshed::Refused(r);
         }
-        id += 1;
+        n += 1;
+        id = next_met(s, layout, start, low, high, id + 1, count);
     }
     Refreshed::Done(n)
 }
 
-// The row of function `id` into its place, if it meets the span.
-fn patch_row(
-    s: &[u8],
-    layout: Layout,
-    start: usize,
-    low: usize,
-    high: usize,
-    id: u32,
-    table: &mut [u32],
-)
-    requires { ⌜ (start ≤ length (now s)) × (length (now s) ≤ 2 ^ 30) ⌝ }
-    requires { ⌜ id * width + width ≤ length (now table) ⌝ }
-    ensures { λ _. ⌜ now (table .exit) ≡ cond (meets (now (s .entry)) layout start low high id) (putRow id (functionAt (now (s .entry)) layout start id) (now (table .entry))) (now (table .entry)) ⌝ }
-{
-    if !meets_at(s, layout, start, low, high, id) {
-        return;
-    }
-    write_row(s, layout, start, id, table);
-}
-
-// The rows of those of functions 0 to count - 1 that meet the span.
-fn patch_all(
+// The rows of the n among functions 0 to count - 1 that meet the span, the first of them being given.
+fn patch_met(
     s: &[u8],
     layout: Layout,
     start: usize,
     count: u32,
     low: usize,
     high: usize,
+    first: u32,
+    n: u32,
     table: &mut [u32],
 )
     requires { ⌜ (start ≤ length (now s)) × (length (now s) ≤ 2 ^ 30) ⌝ }
+    requires { ⌜ Next (meets (now s) layout start low high) 0 count first ⌝ }
+    requires { ⌜ scan (meets (now s) layout start low high) (functionAt (now s) layout start) count ≡ gives n ⌝ }
     requires { ⌜ count * width ≤ length (now table) ⌝ }
     ensures { λ _. ⌜ now (table .exit) ≡ putRows (meets (now (s .entry)) layout start low high) (functionAt (now (s .entry)) layout start) (now (table .entry)) count ⌝ }
 {
-    let mut id: u32 = 0;
-    while id < count {
-        patch_row(s, layout, start, low, high, id, table);
+    let mut left = n;
+    let mut id = first;
+    while 0 < left {
+        id = next_met(s, layout, start, low, high, id, count);
+        write_row(s, layout, start, id, table);
         id += 1;
+        left -= 1;
     }
 }
 
@@ -238,9 +223,12 @@ pub fn refresh_functions(
     if room < count as usize {
         return Refreshed::Refused(refuse(3, room as u32));
     }
-    let found = check_met(file, layout, start, count, low, high);
-    if let Refreshed::Done(_) = found {
-        patch_all(file, layout, start, count, low, high, table);
+    let first = next_met(file, layout, start, low, high, 0, count);
+    match check_met(file, layout, start, count, low, high, first) {
+        Refreshed::Done(n) => {
+            patch_met(file, layout, start, count, low, high, first, n, table);
+            Refreshed::Done(n)
+        }
+        Refreshed::Refused(r) => Refreshed::Refused(r),
     }
-    found
 }

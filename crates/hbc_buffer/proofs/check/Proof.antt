@@ -3,46 +3,84 @@ use mathlib.Core.Path.{refl}
 use native.Mathlib.Omega.{arith}
 use lib.ListN.{length}
 use Rattle.hbc_bits.specs.Laws.{field-lt}
+use Rattle.hbc_buffer_literal.proofs.Laws.{width-most}
+use Rattle.hbc_buffer.proofs.Fills.{small-product}
 use Rattle.hbc_buffer.proofs.Tags.{tag-there, tag-cut}
-use Rattle.hbc_buffer.proofs.Passes.{Passed, passed-first, passed-none, passed-cut, passed-more, passed-all, product, positive, quotient}
+use Rattle.hbc_buffer.proofs.Passes.{Passed, passed-first, passed-none, passed-cut, passed-more, passed-all, positive, quotient, Known, known-first, known-next, known-again, again-more}
 use borrow.Author.Needs.{needs}
 use Rattle.hbc_buffer.proofs.check.Statement.{statement}
 use Rattle.hbc_buffer.proofs.check.Tie as tie
+use Rattle.hbc_buffer.proofs.check.Reads as reads
+use Rattle.hbc_buffer.proofs.check.Lts as lts
+use Rattle.hbc_bits.proofs.bits.Reads as bits-reads
+use Rattle.hbc_buffer.proofs.again.Reads as again-reads
+use Rattle.hbc_buffer.proofs.byte.Reads as byte-reads
+use Rattle.hbc_buffer.proofs.least.Reads as least-reads
+use Rattle.hbc_buffer.proofs.length_of.Reads as length-of-reads
+use Rattle.hbc_buffer.proofs.width_of.Reads as width-of-reads
+use Rattle.hbc_io.proofs.refuse.Reads as refuse-reads
 
 abbrev Inv-loop : tie.InvT-loop
-Inv-loop s from count at₀ done₀ at done = Passed s from count done at
+Inv-loop s from count at₀ done₀ last₀ size₀ wide₀ at done last size wide = Passed s from count done at × Known count done last size wide
 
 abbrev μ-loop : tie.MeasureT-loop
-μ-loop s from count at₀ done₀ at done = length s - at
+μ-loop s from count at₀ done₀ last₀ size₀ wide₀ at done last size wide = length s - at
 
 loop-holds : tie.Need-loop-holds Inv-loop μ-loop
-loop-holds c = passed-first _ _ _ (c .before .pre .1)
+loop-holds c = (passed-first _ _ _ (c .before .pre .1), known-first _)
 
 byte-requires : tie.Need-byte-requires Inv-loop μ-loop
 byte-requires c κs = search needs
 
+sub-again : tie.Need-sub-again Inv-loop μ-loop
+sub-again c = search needs
+
+sub-again-2 : tie.Need-sub-again-2 Inv-loop μ-loop
+sub-again-2 c = (c .before .before .loop .inv .0) .within
+
+again-requires : tie.Need-again-requires Inv-loop μ-loop
+again-requires c κs = (c .before .before .loop .inv .1 .small, c .before .before .loop .inv .1 .narrow, omega arith)
+
+mul-at : tie.Need-mul-at Inv-loop μ-loop
+mul-at c = omega (arith, small-product (c .before .before .before .before .loop .size) (c .before .before .before .before .loop .wide) (c .before .before .before .before .loop .inv .1 .small) (c .before .before .before .before .loop .inv .1 .narrow))
+
+add-at : tie.Need-add-at Inv-loop μ-loop
+add-at c = omega (arith, small-product (c .before .before .before .before .loop .size) (c .before .before .before .before .loop .wide) (c .before .before .before .before .loop .inv .1 .small) (c .before .before .before .before .loop .inv .1 .narrow))
+
+add-at-2 : tie.Need-add-at-2 Inv-loop μ-loop
+add-at-2 c = omega (arith, (c .before .again .ensures (c .if1 .taken)) .3, (c .before .before .before .before .loop .inv .0) .within, c .before .before .before .before .before .before .pre .0)
+
+add-done : tie.Need-add-done Inv-loop μ-loop
+add-done c = omega (arith, (c .before .again .ensures (c .if1 .taken)) .2, c .before .before .before .before .before .before .pre .2)
+
+loop-less : tie.Need-loop-less Inv-loop μ-loop
+loop-less c = omega (arith, (c .before .again .ensures (c .if1 .taken)) .3)
+
+loop-again : tie.Need-loop-again Inv-loop μ-loop
+loop-again c = (again-more (c .before .before .before .before .loop .inv .0) (c .before .before .before .loop-test .taken) (c .before .before .before .before .before .before .pre .0) (c .before .before .before .before .loop .inv .1) (c .before .before .byte .ensures .0) 0 (c .before .again .ensures (c .if1 .taken)), known-again (c .before .before .before .before .loop .inv .1) (c .before .before .before .loop-test .taken))
+
 add-first : tie.Need-add-first Inv-loop μ-loop
-add-first c = omega (arith, c .before .before .loop .inv .within, c .before .before .before .before .pre .0)
+add-first c = omega (arith, (c .before .before .before .before .loop .inv .0) .within, c .before .before .before .before .before .before .pre .0)
 
 bits-requires : tie.Need-bits-requires Inv-loop μ-loop
 bits-requires c κs = search needs
 
 add-first-2 : tie.Need-add-first-2 Inv-loop μ-loop
-add-first-2 c = omega (arith, c .before .before .before .loop .inv .within, c .before .before .before .before .before .pre .0, c .bits .ensures, field-lt 1 7 1 (c .before .byte .result) (omega arith))
+add-first-2 c = omega (arith, (c .before .before .before .before .before .loop .inv .0) .within, c .before .before .before .before .before .before .before .pre .0, c .bits .ensures, field-lt 1 7 1 (c .before .before .before .byte .result) (omega arith))
 
 cast-refuse : tie.Need-cast-refuse Inv-loop μ-loop
-cast-refuse c = omega (arith, c .before .before .before .loop-test .taken, c .before .before .before .before .before .before .pre .2)
+cast-refuse c = omega (arith, c .before .before .before .before .before .loop-test .taken, c .before .before .before .before .before .before .before .before .pre .2)
 
 refuse-requires : tie.Need-refuse-requires Inv-loop μ-loop
 refuse-requires c κs = search needs
 
 returns : tie.Need-returns Inv-loop μ-loop
 returns c =
-    let k = tag-cut _ _ (c .before .before .before .before .before .before .before .pre .0) (c .before .before .before .byte .ensures .0) refl (c .before .before .bits .ensures) (c .before .before .before .before .before .loop .inv .within) (c .before .if1 .taken) in
-    rw (c .refuse .ensures) (passed-none (c .before .before .before .before .before .loop .inv) (c .before .before .before .before .loop-test .taken) (k .0) (k .1))
+    let k = tag-cut _ _ (c .before .before .before .before .before .before .before .before .before .pre .0) (c .before .before .before .before .before .byte .ensures .0) refl (c .before .before .bits .ensures) ((c .before .before .before .before .before .before .before .loop .inv .0) .within) (c .before .if2 .taken) in
+    rw (c .refuse .ensures) (passed-none (c .before .before .before .before .before .before .before .loop .inv .0) (c .before .before .before .before .before .before .loop-test .taken) (k .0) (k .1))
 
 add-byte : tie.Need-add-byte Inv-loop μ-loop
-add-byte c = omega (arith, c .before .before .before .before .loop .inv .within, c .before .before .before .before .before .before .pre .0)
+add-byte c = omega (arith, (c .before .before .before .before .before .before .loop .inv .0) .within, c .before .before .before .before .before .before .before .before .pre .0)
 
 byte-requires-2 : tie.Need-byte-requires-2 Inv-loop μ-loop
 byte-requires-2 c κs = search needs
@@ -56,68 +94,53 @@ sub-least c = search needs
 least-requires : tie.Need-least-requires Inv-loop μ-loop
 least-requires c κs = search needs
 
-bits-requires-2 : tie.Need-bits-requires-2 Inv-loop μ-loop
-bits-requires-2 c κs = search needs
-
-width-requires : tie.Need-width-requires Inv-loop μ-loop
-width-requires c κs = search needs
+width-of-requires : tie.Need-width-of-requires Inv-loop μ-loop
+width-of-requires c κs = search needs
 
 sub-room : tie.Need-sub-room Inv-loop μ-loop
-sub-room c = c .before .before .before .before .before .if1 .left
+sub-room c = c .before .before .before .before .if2 .left
 
-mul-if2 : tie.Need-mul-if2 Inv-loop μ-loop
-mul-if2 c = rw (c .width .ensures) (omega (arith, product (c .before .before .least .result) (c .before .bits2 .result) (omega (arith, c .before .before .least .ensures, c .before .before .before .before .before .before .before .before .before .before .before .pre .2))))
+mul-if3 : tie.Need-mul-if3 Inv-loop μ-loop
+mul-if3 c = omega (arith, small-product (c .before .least .result) (c .width-of .result) (omega (arith, c .before .least .ensures, c .before .before .before .before .before .before .before .before .before .before .before .before .pre .2)) (rw (c .width-of .ensures) (width-most _)))
 
 div-refuse : tie.Need-div-refuse Inv-loop μ-loop
-div-refuse c = positive (c .before .before .before .least .result) _ _ (c .if2 .taken)
+div-refuse c = positive (c .before .before .least .result) _ _ (c .if3 .taken)
 
 add-refuse : tie.Need-add-refuse Inv-loop μ-loop
-add-refuse c = omega (arith, quotient (c .before .before .before .least .result) _ _ (c .if2 .taken), c .before .before .before .least .ensures)
+add-refuse c = omega (arith, quotient (c .before .before .least .result) _ _ (c .if3 .taken), c .before .before .least .ensures)
 
 cast-refuse-2 : tie.Need-cast-refuse-2 Inv-loop μ-loop
-cast-refuse-2 c = omega (arith, quotient (c .before .before .before .least .result) _ _ (c .if2 .taken), c .before .before .before .least .ensures, c .before .before .before .before .before .before .before .before .before .before .before .before .pre .2)
+cast-refuse-2 c = omega (arith, quotient (c .before .before .least .result) _ _ (c .if3 .taken), c .before .before .least .ensures, c .before .before .before .before .before .before .before .before .before .before .before .before .before .pre .2)
 
 refuse-requires-2 : tie.Need-refuse-requires-2 Inv-loop μ-loop
 refuse-requires-2 c κs = search needs
 
 returns-2 : tie.Need-returns-2 Inv-loop μ-loop
-returns-2 c =
-    let g = c .before .before .before .before .before .before .before .before .before .before .before .loop .inv in
-    let l = c .before .before .before .before .before .before .before .before .before .before .loop-test .taken in
-    let b = c .before .before .before .before .before .before .before .before .before .before .before .before .before .pre .0 in
-    let h = tag-there _ _ (c .before .before .before .before .before .before .before .before .before .before .before .before .before .pre .0) (c .before .before .before .before .before .before .before .before .before .byte .ensures .0) (c .before .before .before .bits2 .ensures) (c .before .before .before .before .before .before .before .before .bits .ensures) (c .before .before .before .before .before .before .byte2 .ensures .0) (c .before .before .before .before .before .length-of .ensures) (c .before .before .before .before .before .before .before .if1 .left) in
-    let q = c .before .before .before .before .least .ensures in
-    rw (c .refuse2 .ensures, c .before .before .width .ensures) (passed-cut g l b h _ q (rw (← c .before .before .width .ensures) (c .before .if2 .taken)))
+returns-2 c = rw (c .refuse2 .ensures, c .before .before .width-of .ensures) (passed-cut (c .before .before .before .before .before .before .before .before .before .before .before .before .loop .inv .0) (c .before .before .before .before .before .before .before .before .before .before .before .loop-test .taken) (c .before .before .before .before .before .before .before .before .before .before .before .before .before .before .pre .0) (tag-there _ _ (c .before .before .before .before .before .before .before .before .before .before .before .before .before .before .pre .0) (c .before .before .before .before .before .before .before .before .before .before .byte .ensures .0) refl (c .before .before .before .before .before .before .before .bits .ensures) (c .before .before .before .before .before .byte2 .ensures .0) (c .before .before .before .before .length-of .ensures) (c .before .before .before .before .before .before .if2 .left)) _ (c .before .before .before .least .ensures) (rw (← c .before .before .width-of .ensures) (c .before .if3 .taken)))
 
-mul-at : tie.Need-mul-at Inv-loop μ-loop
-mul-at c = rw (c .before .width .ensures) (omega (arith, product (c .before .before .before .least .result) (c .before .before .bits2 .result) (omega (arith, c .before .before .before .least .ensures, c .before .before .before .before .before .before .before .before .before .before .before .before .pre .2))))
+mul-at-2 : tie.Need-mul-at-2 Inv-loop μ-loop
+mul-at-2 c = omega (arith, small-product (c .before .before .least .result) (c .before .width-of .result) (omega (arith, c .before .before .least .ensures, c .before .before .before .before .before .before .before .before .before .before .before .before .before .pre .2)) (rw (c .before .width-of .ensures) (width-most _)))
 
-add-at : tie.Need-add-at Inv-loop μ-loop
-add-at c = omega (arith, c .if2 .left, c .before .before .before .before .before .before .if1 .left, c .before .before .before .before .before .before .before .before .before .before .before .before .pre .0)
+add-at-3 : tie.Need-add-at-3 Inv-loop μ-loop
+add-at-3 c = omega (arith, c .if3 .left, c .before .before .before .before .before .if2 .left, c .before .before .before .before .before .before .before .before .before .before .before .before .before .pre .0)
 
-add-done : tie.Need-add-done Inv-loop μ-loop
-add-done c = omega (arith, c .before .before .before .least .ensures)
+add-done-2 : tie.Need-add-done-2 Inv-loop μ-loop
+add-done-2 c = omega (arith, c .before .before .least .ensures)
 
-loop-less : tie.Need-loop-less Inv-loop μ-loop
-loop-less c = omega (arith, c .if2 .left, c .before .before .before .before .before .before .if1 .left)
+loop-less-2 : tie.Need-loop-less-2 Inv-loop μ-loop
+loop-less-2 c = omega (arith, c .if3 .left, c .before .before .before .before .before .if2 .left)
 
-loop-again : tie.Need-loop-again Inv-loop μ-loop
-loop-again c =
-    let g = c .before .before .before .before .before .before .before .before .before .before .loop .inv in
-    let l = c .before .before .before .before .before .before .before .before .before .loop-test .taken in
-    let b = c .before .before .before .before .before .before .before .before .before .before .before .before .pre .0 in
-    let h = tag-there _ _ (c .before .before .before .before .before .before .before .before .before .before .before .before .pre .0) (c .before .before .before .before .before .before .before .before .byte .ensures .0) (c .before .before .bits2 .ensures) (c .before .before .before .before .before .before .before .bits .ensures) (c .before .before .before .before .before .byte2 .ensures .0) (c .before .before .before .before .length-of .ensures) (c .before .before .before .before .before .before .if1 .left) in
-    let q = c .before .before .before .least .ensures in
-    rw (c .before .width .ensures) (passed-more g l b h _ q (rw (← c .before .width .ensures) (c .if2 .left)))
+loop-again-2 : tie.Need-loop-again-2 Inv-loop μ-loop
+loop-again-2 c = (rw (c .before .width-of .ensures) (passed-more (c .before .before .before .before .before .before .before .before .before .before .before .loop .inv .0) (c .before .before .before .before .before .before .before .before .before .before .loop-test .taken) (c .before .before .before .before .before .before .before .before .before .before .before .before .before .pre .0) (tag-there _ _ (c .before .before .before .before .before .before .before .before .before .before .before .before .before .pre .0) (c .before .before .before .before .before .before .before .before .before .byte .ensures .0) refl (c .before .before .before .before .before .before .bits .ensures) (c .before .before .before .before .byte2 .ensures .0) (c .before .before .before .length-of .ensures) (c .before .before .before .before .before .if2 .left)) _ (c .before .before .least .ensures) (rw (← c .before .width-of .ensures) (c .if3 .left))), known-next _ _ (c .before .before .before .before .before .before .before .before .before .before .loop-test .taken) (c .before .before .before .before .before .before .before .before .before .before .before .before .before .pre .2) (c .before .before .before .length-of .ensures) (c .before .before .least .ensures) (c .before .width-of .ensures))
 
-sub-t23 : tie.Need-sub-t23 Inv-loop μ-loop
-sub-t23 c = c .before .loop .inv .up
+sub-t33 : tie.Need-sub-t33 Inv-loop μ-loop
+sub-t33 c = c .before .loop .inv .0 .up
 
-cast-t24 : tie.Need-cast-t24 Inv-loop μ-loop
-cast-t24 c = omega (arith, c .before .loop .inv .within, c .before .before .before .pre .0)
+cast-t34 : tie.Need-cast-t34 Inv-loop μ-loop
+cast-t34 c = omega (arith, c .before .loop .inv .0 .within, c .before .before .before .pre .0)
 
 returns-3 : tie.Need-returns-3 Inv-loop μ-loop
-returns-3 c = passed-all (c .before .loop .inv) (omega (arith, c .before .loop .inv .below, c .loop-test .left))
+returns-3 c = passed-all (c .before .loop .inv .0) (omega (arith, c .before .loop .inv .0 .below, c .loop-test .left))
 
 pub check-spec : {M : Type 1} → statement M
 check-spec =
@@ -127,6 +150,15 @@ check-spec =
     μ-loop
     loop-holds
     byte-requires
+    sub-again
+    sub-again-2
+    again-requires
+    mul-at
+    add-at
+    add-at-2
+    add-done
+    loop-less
+    loop-again
     add-first
     bits-requires
     add-first-2
@@ -138,20 +170,19 @@ check-spec =
     length-of-requires
     sub-least
     least-requires
-    bits-requires-2
-    width-requires
+    width-of-requires
     sub-room
-    mul-if2
+    mul-if3
     div-refuse
     add-refuse
     cast-refuse-2
     refuse-requires-2
     returns-2
-    mul-at
-    add-at
-    add-done
-    loop-less
-    loop-again
-    sub-t23
-    cast-t24
+    mul-at-2
+    add-at-3
+    add-done-2
+    loop-less-2
+    loop-again-2
+    sub-t33
+    cast-t34
     returns-3)

@@ -1,8 +1,8 @@
-use mathlib.Core.Path.{ap, _∙_}
+use mathlib.Core.Path.{refl, ap, sym, _∙_}
 use native.Mathlib.Omega.{arith}
 use Rattle.hbc_io.specs.Outcome.{refusalAt}
 use Rattle.hbc_header.specs.Answer.{refuses}
-use Rattle.hbc_function.specs.Laws.{fresh-long, fresh-past, fresh-reversed, fresh-outside, fresh-small, fresh-cut, fresh-done, fresh-stopped}
+use Rattle.hbc_function.specs.Laws.{fresh-by, fresh-long, fresh-past, fresh-reversed, fresh-outside, fresh-small, fresh-cut, fresh-done, fresh-stopped}
 use borrow.Author.Needs.{needs}
 use Rattle.hbc_function.proofs.refresh_functions.Statement.{statement}
 use Rattle.hbc_function.proofs.refresh_functions.Tie as tie
@@ -52,26 +52,29 @@ refuse-requires-6 c κs = search needs
 returns-6 : tie.Need-returns-6
 returns-6 c = fresh-cut (omega arith) (omega arith) (omega arith) (omega arith) (omega arith) (ap refuses (c .refuse6 .ensures ∙ ap (refusalAt 3) (c .before .before .room-for .ensures))) (omega arith)
 
+next-met-requires : tie.Need-next-met-requires
+next-met-requires c κs = search needs
+
 check-met-requires : tie.Need-check-met-requires
 check-met-requires c κs = search needs
 
-enum-told : tie.Need-enum-told
-enum-told c = search needs
+enum-known-n : tie.Need-enum-known-n
+enum-known-n c = search needs
 
-patch-all-requires : tie.Need-patch-all-requires
-patch-all-requires c κs = search needs
+patch-met-requires : tie.Need-patch-met-requires
+patch-met-requires c κs = ((omega arith, omega arith), (c .before .before .before .before .before .next-met .ensures, (sym (fresh-by (c .before .before .before .before .check-met .ensures) (c .before .before .n .given .1)), omega arith)))
 
-enum-told-2 : tie.Need-enum-told-2
-enum-told-2 c = search needs
+enum-known-r : tie.Need-enum-known-r
+enum-known-r c = search needs
 
 same-length : tie.Need-same-length
 same-length c = search needs
 
 returns-7 : tie.Need-returns-7
-returns-7 c = fresh-done (omega arith) (omega arith) (omega arith) (omega arith) (omega arith) (omega arith) (c .before .before .before .before .before .before .check-met .ensures) (c .before .before .before .before .enum-told .given .1) (c .before .before .patch-all .ensures)
+returns-7 c = fresh-done (omega arith) (omega arith) (omega arith) (omega arith) (omega arith) (omega arith) (fresh-by (c .before .before .before .before .before .before .before .check-met .ensures) (c .before .before .before .before .before .n .given .1)) refl (c .before .before .patch-met .ensures)
 
 returns-8 : tie.Need-returns-8
-returns-8 c = fresh-stopped (omega arith) (omega arith) (omega arith) (omega arith) (omega arith) (omega arith) (c .before .before .check-met .ensures) (c .enum-told2 .given .1)
+returns-8 c = fresh-stopped (omega arith) (omega arith) (omega arith) (omega arith) (omega arith) (omega arith) (fresh-by (c .before .before .before .check-met .ensures) (c .before .r .given .1)) refl
 
 pub refresh-functions-spec : {M : Type 1} → statement M
 refresh-functions-spec =
@@ -92,10 +95,11 @@ refresh-functions-spec =
     cast-refuse
     refuse-requires-6
     returns-6
+    next-met-requires
     check-met-requires
-    enum-told
-    patch-all-requires
-    enum-told-2
+    enum-known-n
+    patch-met-requires
+    enum-known-r
     same-length
     returns-7
     returns-8)

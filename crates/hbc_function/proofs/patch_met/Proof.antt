@@ -1,0 +1,57 @@
+use borrow.Author.Needs.{needs}
+use Prim.Native.Nat.{_-_}
+use native.Mathlib.Omega.{arith}
+use Rattle.hbc_header.specs.Header.{functionAt}
+use Rattle.hbc_header_ground.specs.Meets.{meets}
+use Rattle.hbc_function.specs.Passes.{Patched, patch-first, patch-in, patch-more, patch-done}
+use Rattle.hbc_function.proofs.patch_met.Statement.{statement}
+use Rattle.hbc_function.proofs.patch_met.Tie as tie
+
+abbrev Inv-loop : tie.InvT-loop
+Inv-loop s layout start count low high first n table₀ left₀ id₀ table left id = Patched (meets s layout start low high) (functionAt s layout start) count n left id table₀ table
+
+abbrev μ-loop : tie.MeasureT-loop
+μ-loop s layout start count low high first n table₀ left₀ id₀ table left id = left
+
+loop-holds : tie.Need-loop-holds Inv-loop μ-loop
+loop-holds c = patch-first (c .before .before .pre .1 .0)
+
+next-met-requires : tie.Need-next-met-requires Inv-loop μ-loop
+next-met-requires c κs = search needs
+
+write-row-requires : tie.Need-write-row-requires Inv-loop μ-loop
+write-row-requires c κs = let w = c .before .before .before .loop .inv in let l = w .put .long in let i = patch-in w (c .before .before .before .before .before .before .pre .1 .1 .0) (c .before .before .loop-test .taken) (c .before .next-met .ensures) in search needs
+
+add-id : tie.Need-add-id Inv-loop μ-loop
+add-id c = let i = patch-in (c .before .before .before .before .before .before .loop .inv) (c .before .before .before .before .before .before .before .before .before .pre .1 .1 .0) (c .before .before .before .before .before .loop-test .taken) (c .before .before .before .before .next-met .ensures) in search needs
+
+sub-left : tie.Need-sub-left Inv-loop μ-loop
+sub-left c = search needs
+
+loop-less : tie.Need-loop-less Inv-loop μ-loop
+loop-less c = search needs
+
+loop-again : tie.Need-loop-again Inv-loop μ-loop
+loop-again c = patch-more (c .before .before .before .before .before .before .loop .inv) (c .before .before .before .before .before .before .before .before .before .pre .1 .1 .0) (c .before .before .before .before .before .loop-test .taken) (c .before .before .before .before .next-met .ensures) (c .before .before .write-row .ensures) (c .before .before .write-row .kept .1 .1 .1 .1 .0)
+
+same-length : tie.Need-same-length Inv-loop μ-loop
+same-length c = c .before .loop .inv .put .long
+
+returns : tie.Need-returns Inv-loop μ-loop
+returns c = patch-done (c .before .loop .inv) (c .before .before .before .before .pre .1 .1 .0) (omega arith)
+
+pub patch-met-spec : {M : Type 1} → statement M
+patch-met-spec =
+    tie.close
+    (tie.spec
+    Inv-loop
+    μ-loop
+    loop-holds
+    next-met-requires
+    write-row-requires
+    add-id
+    sub-left
+    loop-less
+    loop-again
+    same-length
+    returns)
