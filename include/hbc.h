@@ -3,29 +3,37 @@
  * Common to all calls
  *
  * - Bytes that are lent are a pointer and a count: `s`, `s_len`. They are only read. The pointer must stand for that
- *   many bytes, and must not be NULL, not even where the count is 0.
- * - A number that is lent (`size_t *at`, `uint32_t *value`, ..) must not be NULL, and must not overlap the bytes or
- *   another lent number.
+ *   many bytes, and must not be NULL, not even where the count is 0. A table is lent in the same way, `table` and
+ *   `table_len`; the count is one of words, not of rows or bytes. Where it is const it is only read.
+ * - A number that is lent (`size_t *at`, `uint32_t *value`, ..), and a table that is not const, must not be NULL, and
+ *   must not overlap the bytes or anything else that is lent.
  * - `at` is the cursor: the position in the bytes, from 0. It is read, and holds the cursor afterwards. It may hold
  *   any number.
- * - The answer is one number: 0 where the call is accepted, else the refusal's number times 2^32, plus its place.
- *   HBC_NUMBER and HBC_PLACE take it apart. The place is 0 in all calls of this header.
- * - A value is written only where the call is accepted; a refused call leaves the lent values as they were, and the
- *   cursor too, unless it says otherwise below.
+ * - The answer is one number: where the call is accepted 0, or a number below 2^32 if it says so below; else the
+ *   refusal's number times 2^32, plus its place. HBC_NUMBER and HBC_PLACE take it apart. The place is 0 unless it is
+ *   named below.
+ * - A value is written only where the call is accepted; a refused call leaves the lent values and every word of the
+ *   lent tables as they were, and the cursor too, unless it says otherwise below.
  * - Every call ends, on every input, and never reads outside the bytes lent.
  *
  * Refusal numbers of these calls, in the order in which they are looked for
  *
+ *  12  a layout that there is not
  *   1  more than 2^30 bytes are lent
  *   6  alignment 0
- *   2  the cursor stands past the end; or a seek or align goes past the end
+ *   2  the cursor or a start stands past the end; or a seek or align goes past the end
+ *  10  a span is reversed, or goes past the end
+ *  11  fewer rows are lent to be read than the count says
+ *   4  a lent table has too few rows
  *   3  a read needs bytes past the end
  *   5  the tenth byte of a LEB128 number has bit 7 set
+ *   8  no overflow entry is left
  *   9  a zero-ended string has no zero
  */
 #ifndef HBC_H
 #define HBC_H
 
+#include <stdbool.h>
 #include <stddef.h>
 #include <stdint.h>
 
@@ -96,6 +104,137 @@ uint64_t hbc_read_cstring(const uint8_t *s, size_t s_len, size_t *at, size_t *st
  * Refused as hbc_read_uleb128, with the cursor as it leaves it; or 3 if fewer bytes are left than the length says: the
  * cursor then stands after the length. */
 uint64_t hbc_read_length_prefixed_string(const uint8_t *s, size_t s_len, size_t *at, size_t *start, size_t *size);
+
+/* ---- String tables ---- */
+
+/* Reads `count` words from the cursor on, the least byte first, into `table`. Kind runs are read so too.
+ * Accepted, the cursor moves behind them; words of the table past the first `count` stay.
+ * Refused 1; 2 if the cursor is past the end; 4 if the table has fewer than `count` words; 3 if the bytes end before
+ * the words do, with the count of whole entries before that as place. */
+uint64_t hbc_read_u32_table(const uint8_t *s, size_t s_len, size_t *at, uint32_t count, uint32_t *table,
+                            size_t table_len);
+
+/* The same for `count` pairs of words: overflow strings, table entries, shapes, CJS pairs. The table needs two words
+ * for each. */
+uint64_t hbc_read_pair_table(const uint8_t *s, size_t s_len, size_t *at, uint32_t count, uint32_t *table,
+                             size_t table_len);
+
+/* One row of four words for each of the first n strings, n being the lesser of `count` and `small_len`:
+ *
+ *   start in the storage, byte length, 0 valid or 1 invalid (start and length are then 0), marks (1 UTF-16,
+ *   2 identifier; their sum if both)
+ *
+ * `kinds`: the words of the kind runs. `small`: the small entries, a word each. `overflow`: pairs, two words each; a
+ * last word without its partner is none.
+ * Accepted, the answer is n, a number below 2^32; words past the rows stay.
+ * Refused 1 if the storage is longer than 2^30 bytes; 4 if fewer than n whole rows are lent; 8 if a string needs an
+ * overflow pair and none is left, with the string's number as place. */
+uint64_t hbc_decode_strings(uint32_t count, const uint32_t *kinds, size_t kinds_len, const uint32_t *small,
+                            size_t small_len, const uint32_t *overflow, size_t overflow_len, const uint8_t *storage,
+                            size_t storage_len, uint32_t *rows, size_t rows_len);
+
+/* The bytes of one string, by row `index` of such rows: `*len` of them from `storage + *start` on, always within the
+ * storage. Both are 0 where there is no such row, where its third word is not 0, and where it leaves the storage.
+ * Never refused, at any length. */
+void hbc_string_bytes(const uint8_t *storage, size_t storage_len, const uint32_t *rows, size_t rows_len, size_t index,
+                      size_t *start, size_t *len);
+
+/* ---- Function tables ----
+ *
+ * A layout is a number: 0 legacy (headers of 16 bytes), 1 modern (12). A row is HBC_FUNCTION_WORDS words:
+ *
+ *   layout, id, offset, param_count, size, name, info_offset, frame_size, flags; then
+ *   legacy  environment_size, read index, write index, 0, 0, 0, 0
+ *   modern  loop_depth, number_reg, non_ptr_reg, read cache, write cache, new_object, private_name
+ *
+ * `start` is the byte of the file at which the table of headers begins. A header with bit 5 of its flags set is read
+ * from its large header, at the place packed into it.
+ * Refused 12 before all else if `layout` is neither 0 nor 1. */
+#define HBC_FUNCTION_WORDS 16
+
+/* Reads functions 0 to count - 1 into rows 0 to count - 1 of `table`. Accepted, the answer is `count`; words past
+ * those rows stay.
+ * Refused 12; 1; 2 if `start` is past the end; 4 if the table has fewer than `count` rows; then, with the first
+ * function that cannot be read as place, 2 if its packed place is past the end, 3 if its header or its large header
+ * runs past the end. */
+uint64_t hbc_read_functions(const uint8_t *file, size_t file_len, uint32_t layout, size_t start, uint32_t count,
+                            uint32_t *table, size_t table_len);
+
+/* Brings a table up to date after the bytes from `low` up to `high` of the file changed, and nothing else: reads again
+ * those of the `count` functions that meet this span, from the file as it is now, into their rows. A function meets it
+ * if its header, or its large header if it is flagged, shares a byte with it; an empty span meets nothing.
+ * Accepted, the answer is how many were read again; every other word of the table stays.
+ * Refused 12; 1; 2 if `start` is past the end; 10 if `low` is above `high`, or `high` past the end; 4 as above; 3 with
+ * the first function whose header is not wholly in the file as place, whether it meets the span or not; then 2 or 3 as
+ * above for the first function that meets the span and cannot be read. */
+uint64_t hbc_refresh_functions(const uint8_t *file, size_t file_len, uint32_t layout, size_t start, uint32_t count,
+                               size_t low, size_t high, uint32_t *table, size_t table_len);
+
+/* Reads function `id` alone, into row 0 of `table`. Accepted, the answer is 1; words past that row stay.
+ * Refused 12; 1; 2 at place 0 if `start` is past the end; 4 if no row is lent; 2 or 3 with `id` as place. */
+uint64_t hbc_read_function(const uint8_t *file, size_t file_len, uint32_t layout, size_t start, uint32_t id,
+                           uint32_t *table, size_t table_len);
+
+/* Whether function `id` meets the bytes from `low` up to `high`, which need not be in the file: 1 if so, 0 if not, and
+ * 0 where its header is not wholly in the file, or the file is longer than 2^30 bytes.
+ * Refused 12 only. */
+uint64_t hbc_function_meets(const uint8_t *file, size_t file_len, uint32_t layout, size_t start, uint32_t id,
+                            size_t low, size_t high);
+
+/* ---- Handlers and trailing sections ---- */
+
+/* The exception handlers of functions 0 to count - 1. `functions` holds rows as hbc_read_functions writes them, row i
+ * for function i; only info_offset and flags are read, and may be any numbers. `rows` gets four words a handler,
+ * functions rising:
+ *
+ *   function, start, end, target
+ *
+ * A function has none if bit 3 of its flags is clear, if info_offset is 0 or at or past the end, if its place rounded
+ * up to 4 leaves no 4 bytes, if the count there is 0 or above 1000, or if one of its handlers is cut.
+ * Accepted, the answer is 0, and `*total` the number of rows; words past them stay.
+ * Refused 1; 11 if fewer than `count` function rows are lent; 4 if there are more handlers than rows of four words. */
+uint64_t hbc_read_handlers(const uint8_t *file, size_t file_len, const uint32_t *functions, size_t functions_len,
+                           uint32_t count, uint32_t *rows, size_t rows_len, size_t *total);
+
+/* The rows of hbc_trailing_sections. */
+#define HBC_REGEXP_TABLE 0
+#define HBC_REGEXP_STORAGE 1
+#define HBC_CJS_PAIRS 2
+#define HBC_FUNCTION_SOURCES 3
+#define HBC_BYTECODE 4
+#define HBC_SECTIONS 5
+
+/* Finds the sections from byte `start` on: regexp table (8 bytes an entry), regexp storage, CJS pairs (8), function
+ * sources (8) if `given`, each padded to 4 in the file; then bytecode to the end. `rows` gets HBC_SECTIONS rows of four
+ * words:
+ *
+ *   start, size with padding, entries (0 for storage and bytecode), and 1 if absent, else 0
+ *
+ * Function sources that are not given are absent, with 0 in the other words; `sources` is then not looked at. The
+ * entries are read by hbc_read_pair_table, at a section's start and with its entries as the count.
+ * Accepted, the answer is HBC_SECTIONS; words past the rows stay.
+ * Refused 1; 2 if `start` is past the end; 4 if fewer than HBC_SECTIONS rows are lent; then, section by section, 3 if
+ * its bytes and 2 if its padding goes past the end. */
+uint64_t hbc_trailing_sections(const uint8_t *file, size_t file_len, size_t start, uint32_t regexps, uint32_t storage,
+                               uint32_t cjs, bool given, uint32_t sources, uint32_t *rows, size_t rows_len);
+
+/* ---- The debug section ---- */
+
+/* The debug section at byte `offset` of the file, as rows in four tables:
+ *
+ *   strings  2 words: start in the file, after the length prefix, and byte length
+ *   scopes   5 words: offset in the scope part, parent (4294967295 if none), flags, first name, name count
+ *   names    1 word: a string's number, 4294967295 if there is no such string; scopes name parts of this table
+ *   callees  2 words: address, string's number; addresses rise
+ *
+ * At `offset` 0, 2^32 - 1, or at or past the end there is no debug information: accepted, with no rows.
+ * Accepted, the answer is 0, and the four counts are those of the rows; words past them stay. Refused, the counts stay
+ * too.
+ * Refused 1; 3 if the header of 28 bytes is cut; 4 if one of the tables has too few rows, looked at last. */
+uint64_t hbc_read_debug(const uint8_t *file, size_t file_len, uint32_t offset, uint32_t *strings, size_t strings_len,
+                        uint32_t *scopes, size_t scopes_len, uint32_t *names, size_t names_len, uint32_t *callees,
+                        size_t callees_len, size_t *string_count, size_t *scope_count, size_t *name_count,
+                        size_t *callee_count);
 
 #ifdef __cplusplus
 }

@@ -7,9 +7,10 @@ use hbc_sys::*;
 use published::error::Result;
 use published::io::ByteReader;
 
-use crate::table::{Bench, Side, Sides, Tally, SIZES};
+use crate::table::{heading, Bench, Side, Sides, Tally, SIZES};
 
 pub fn rows(bench: &Bench) {
+    heading();
     let mut random = Random::new(1);
     for size in SIZES {
         let plain = filled(size, |bytes| bytes.extend(random.word().to_le_bytes()));

@@ -3,13 +3,26 @@
 use std::process::ExitCode;
 
 #[cfg(all(published, archive))]
+mod function;
+#[cfg(all(published, archive))]
 mod io;
 #[cfg(all(published, archive))]
+mod parsing;
+#[cfg(all(published, archive))]
+mod strings;
+#[cfg(all(published, archive))]
 mod table;
+#[cfg(all(published, archive))]
+mod whole;
 
 #[cfg(all(published, archive))]
 fn main() -> ExitCode {
-    table::main(&[("io", io::rows)])
+    table::main(&[
+        ("io", io::rows),
+        ("table", strings::rows),
+        ("function", function::rows),
+        ("parsing", parsing::rows),
+    ])
 }
 
 #[cfg(not(all(published, archive)))]

@@ -30,7 +30,7 @@ pub struct Sides {
 }
 
 /// The processor time of this thread so far, in nanoseconds: what others run meanwhile is not counted.
-fn processor_time() -> i64 {
+pub fn processor_time() -> i64 {
     extern "C" {
         fn clock_gettime(clock: i32, time: *mut [i64; 2]) -> i32;
     }
@@ -42,7 +42,21 @@ fn processor_time() -> i64 {
 }
 
 pub struct Bench {
-    rounds: u32,
+    pub rounds: u32,
+}
+
+/// The heading of a table of reads, one call each.
+pub fn heading() {
+    println!("Ours is a call across the C boundary for each read. \"called\" is the Rust behind a call for each read;");
+    println!("\"inlined\" is the Rust inlined into the loop, with no call to pay for.");
+    println!(
+        "{:<28} {:>8} {:>12} {:>9} {:>9} {:>9} {:>9} {:>9}",
+        "", "bytes", "reads", "ours", "called", "inlined", "called", "inlined"
+    );
+    println!(
+        "{:<50} {:>9} {:>9} {:>9} {:>9} {:>9}",
+        "", "ns", "ns", "ns", "/ ours", "/ ours"
+    );
 }
 
 impl Bench {
@@ -98,17 +112,7 @@ pub fn main(layers: &[Layer]) -> ExitCode {
             _ => return bad_usage(),
         }
     }
-    println!("Nanoseconds for each read, best of {} rounds, and the Rust's time over ours: above 1, ours is faster.", bench.rounds);
-    println!("Ours is a call across the C boundary for each read. \"called\" is the Rust behind a call for each read;");
-    println!("\"inlined\" is the Rust inlined into the loop, with no call to pay for.");
-    println!(
-        "{:<28} {:>8} {:>12} {:>9} {:>9} {:>9} {:>9} {:>9}",
-        "", "bytes", "reads", "ours", "called", "inlined", "called", "inlined"
-    );
-    println!(
-        "{:<50} {:>9} {:>9} {:>9} {:>9} {:>9}",
-        "", "ns", "ns", "ns", "/ ours", "/ ours"
-    );
+    println!("Nanoseconds of processor time, best of {} rounds, and the Rust's time over ours: above 1, ours is faster.", bench.rounds);
     for (name, rows) in layers {
         if names.is_empty() || names.iter().any(|chosen| chosen == name) {
             rows(&bench);

@@ -314,11 +314,11 @@ impl Answer {
     }
 }
 
-fn hex(bytes: &[u8]) -> String {
+pub fn hex(bytes: &[u8]) -> String {
     bytes.iter().map(|byte| format!("{byte:02x}")).collect()
 }
 
-fn unhex(word: &str) -> Result<Vec<u8>, String> {
+pub fn unhex(word: &str) -> Result<Vec<u8>, String> {
     if !word.is_ascii() || !word.len().is_multiple_of(2) {
         return Err(format!("{word} is not bytes in hexadecimal"));
     }

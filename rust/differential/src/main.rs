@@ -4,18 +4,57 @@
 use std::process::ExitCode;
 
 #[cfg(all(published, archive))]
+mod debug;
+#[cfg(all(published, archive))]
+mod function;
+#[cfg(all(published, archive))]
 mod io;
 #[cfg(all(published, archive))]
+mod lent;
+#[cfg(all(published, archive))]
+mod parsing;
+#[cfg(all(published, archive))]
 mod run;
+#[cfg(all(published, archive))]
+mod table;
+#[cfg(all(published, archive))]
+mod words;
 
 #[cfg(all(published, archive))]
 fn main() -> ExitCode {
-    run::main(&[run::Layer {
-        name: "io",
-        compare: io::compare,
-        record: io::record::write,
-        replay: io::replay,
-    }])
+    use run::Layer;
+    run::main(&[
+        Layer {
+            name: "io",
+            compare: io::compare,
+            record: Some(io::record::write),
+            replay: io::replay,
+        },
+        Layer {
+            name: "table",
+            compare: table::compare,
+            record: None,
+            replay: table::replay,
+        },
+        Layer {
+            name: "function",
+            compare: function::compare,
+            record: None,
+            replay: function::replay,
+        },
+        Layer {
+            name: "parsing",
+            compare: parsing::compare,
+            record: None,
+            replay: parsing::replay,
+        },
+        Layer {
+            name: "debug",
+            compare: debug::compare,
+            record: None,
+            replay: debug::replay,
+        },
+    ])
 }
 
 #[cfg(all(published, not(archive)))]

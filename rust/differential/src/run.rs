@@ -6,18 +6,19 @@ use std::time::{Duration, Instant};
 
 use harness::{count, Random};
 
-const USAGE: &str = "usage: differential [--seconds N] [--seed S] [LAYER..]
+const USAGE: &str = "usage: differential [--seconds N] [--seed S] [--full] [LAYER..]
        differential [--seed S] --record FILE [LAYER]
        differential --replay LAYER WORD..
 Compares every layer, or those named. Fixed inputs are always compared whole; random ones until N seconds have
-passed in all (default 20). --record writes a sample of the Rust's answers, as the LAYER_vectors program reads it;
-the layer is io if none is named. --replay compares one input, in the words that a difference prints.";
+passed in all (default 20). --full adds inputs that need some 8 GB of memory and a minute. --record writes a sample
+of the Rust's answers, as the LAYER_vectors program reads it; the layer is io if none is named. --replay compares one
+input, in the words that a difference prints.";
 
 pub struct Layer {
     pub name: &'static str,
     pub compare: fn(&mut Run) -> Result<(), Difference>,
-    /// The sample as bytes, and a line for each thing it covers.
-    pub record: fn(Random) -> (Vec<u8>, Vec<String>),
+    /// The sample as bytes, and a line for each thing it covers; none where no program reads one.
+    pub record: Option<fn(Random) -> (Vec<u8>, Vec<String>)>,
     /// Both answers in words, or a difference.
     pub replay: fn(&[String]) -> Result<String, Difference>,
 }
@@ -26,6 +27,8 @@ pub struct Layer {
 pub struct Difference(pub Vec<String>);
 
 pub struct Run {
+    /// Whether inputs of the greatest sizes are asked for.
+    pub full: bool,
     layer: &'static str,
     seed: u64,
     until: Instant,
@@ -53,7 +56,7 @@ impl Run {
             return Err(Difference(lines));
         }
         println!(
-            "{:<6} {name:<44} {:>14} cases  0 differences  {:>6.2} s",
+            "{:<8} {name:<44} {:>14} cases  0 differences  {:>6.2} s",
             self.layer,
             count(self.cases),
             begin.elapsed().as_secs_f64()
@@ -82,6 +85,7 @@ impl Run {
 struct Asked {
     seconds: f64,
     seed: u64,
+    full: bool,
     record: Option<String>,
     replay: bool,
     words: Vec<String>,
@@ -91,6 +95,7 @@ fn asked() -> Result<Asked, String> {
     let mut asked = Asked {
         seconds: 20.0,
         seed: 1,
+        full: false,
         record: None,
         replay: false,
         words: Vec::new(),
@@ -101,6 +106,7 @@ fn asked() -> Result<Asked, String> {
         match word.as_str() {
             "--seconds" => asked.seconds = number(&next()?)?,
             "--seed" => asked.seed = number(&next()?)?,
+            "--full" => asked.full = true,
             "--record" => asked.record = Some(next()?),
             "--replay" => asked.replay = true,
             _ if word.starts_with("--") => return Err(format!("no option {word}")),
@@ -145,15 +151,17 @@ pub fn main(layers: &[Layer]) -> ExitCode {
         [] => layers.iter().collect(),
         words => words.iter().filter_map(find).collect(),
     };
-    compare(&chosen, asked.seconds, asked.seed)
+    compare(&chosen, &asked)
 }
 
-fn compare(layers: &[&Layer], seconds: f64, seed: u64) -> ExitCode {
+fn compare(layers: &[&Layer], asked: &Asked) -> ExitCode {
+    let (seconds, seed) = (asked.seconds, asked.seed);
     let begin = Instant::now();
     let mut total = 0;
     for (i, layer) in layers.iter().enumerate() {
         let share = seconds.max(0.0) * (i + 1) as f64 / layers.len() as f64;
         let mut run = Run {
+            full: asked.full,
             layer: layer.name,
             seed,
             until: begin + Duration::from_secs_f64(share),
@@ -179,7 +187,10 @@ fn report(Difference(lines): Difference) -> ExitCode {
 }
 
 fn record(layer: &Layer, seed: u64, file: &str) -> ExitCode {
-    let (bytes, lines) = (layer.record)(Random::new(seed));
+    let Some(sample) = layer.record else {
+        return bad_usage(format!("no sample of {} is recorded", layer.name));
+    };
+    let (bytes, lines) = sample(Random::new(seed));
     for line in lines {
         println!("{line}");
     }

@@ -34,4 +34,19 @@ extern "C" {
     pub fn hbc_read_bytes(s: *const u8, s_len: usize, at: *mut usize, len: usize, start: *mut usize, size: *mut usize) -> u64;
     pub fn hbc_read_cstring(s: *const u8, s_len: usize, at: *mut usize, start: *mut usize, size: *mut usize) -> u64;
     pub fn hbc_read_length_prefixed_string(s: *const u8, s_len: usize, at: *mut usize, start: *mut usize, size: *mut usize) -> u64;
+
+    pub fn hbc_read_u32_table(s: *const u8, s_len: usize, at: *mut usize, count: u32, table: *mut u32, table_len: usize) -> u64;
+    pub fn hbc_read_pair_table(s: *const u8, s_len: usize, at: *mut usize, count: u32, table: *mut u32, table_len: usize) -> u64;
+    pub fn hbc_decode_strings(count: u32, kinds: *const u32, kinds_len: usize, small: *const u32, small_len: usize, overflow: *const u32, overflow_len: usize, storage: *const u8, storage_len: usize, rows: *mut u32, rows_len: usize) -> u64;
+    pub fn hbc_string_bytes(storage: *const u8, storage_len: usize, rows: *const u32, rows_len: usize, index: usize, start: *mut usize, len: *mut usize);
+
+    pub fn hbc_read_functions(file: *const u8, file_len: usize, layout: u32, start: usize, count: u32, table: *mut u32, table_len: usize) -> u64;
+    pub fn hbc_refresh_functions(file: *const u8, file_len: usize, layout: u32, start: usize, count: u32, low: usize, high: usize, table: *mut u32, table_len: usize) -> u64;
+    pub fn hbc_read_function(file: *const u8, file_len: usize, layout: u32, start: usize, id: u32, table: *mut u32, table_len: usize) -> u64;
+    pub fn hbc_function_meets(file: *const u8, file_len: usize, layout: u32, start: usize, id: u32, low: usize, high: usize) -> u64;
+
+    pub fn hbc_read_handlers(file: *const u8, file_len: usize, functions: *const u32, functions_len: usize, count: u32, rows: *mut u32, rows_len: usize, total: *mut usize) -> u64;
+    pub fn hbc_trailing_sections(file: *const u8, file_len: usize, start: usize, regexps: u32, storage: u32, cjs: u32, given: bool, sources: u32, rows: *mut u32, rows_len: usize) -> u64;
+
+    pub fn hbc_read_debug(file: *const u8, file_len: usize, offset: u32, strings: *mut u32, strings_len: usize, scopes: *mut u32, scopes_len: usize, names: *mut u32, names_len: usize, callees: *mut u32, callees_len: usize, string_count: *mut usize, scope_count: *mut usize, name_count: *mut usize, callee_count: *mut usize) -> u64;
 }

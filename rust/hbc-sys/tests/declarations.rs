@@ -20,6 +20,11 @@ fn one_space(text: &str) -> String {
     text.split_whitespace().collect::<Vec<_>>().join(" ")
 }
 
+fn shape(parameters: Vec<String>, answer: Option<&str>) -> String {
+    let answer = answer.map_or(String::new(), |kind| format!(" -> {kind}"));
+    format!("({}){answer}", parameters.join(", "))
+}
+
 /// The declarations of src/lib.rs, as they stand.
 fn declared() -> Calls {
     let text = fs::read_to_string(repository().join("rust/hbc-sys/src/lib.rs")).unwrap();
@@ -70,13 +75,15 @@ fn in_the_header() -> Calls {
         let Some((before, after)) = prototype.split_once(" hbc_") else {
             continue;
         };
-        let answer = of_c(before.split_whitespace().last().unwrap());
+        let answer = match before.split_whitespace().last().unwrap() {
+            "void" => None,
+            kind => Some(of_c(kind)),
+        };
         let (name, rest) = after.split_once('(').unwrap();
         let (parameters, _) = rest.split_once(')').unwrap();
         let parameters = one_space(parameters);
-        let parameters: Vec<_> = parameters.split(", ").map(c_parameter).collect();
-        let shape = format!("({}) -> {answer}", parameters.join(", "));
-        calls.insert(format!("hbc_{name}"), shape);
+        let parameters = parameters.split(", ").map(c_parameter).collect();
+        calls.insert(format!("hbc_{name}"), shape(parameters, answer));
     }
     calls
 }
@@ -104,13 +111,12 @@ fn exported() -> Calls {
         for found in text.split("pub extern \"C\" fn ").skip(1) {
             let (name, rest) = found.split_once('(').unwrap();
             let (parameters, rest) = rest.split_once(')').unwrap();
-            let answer = rest.trim_start().strip_prefix("-> ").unwrap();
-            let (answer, _) = answer.split_once(char::is_whitespace).unwrap();
+            let answer = rest.trim_start().strip_prefix("-> ");
+            let answer = answer.and_then(|rest| rest.split_whitespace().next());
             let parameters = one_space(parameters);
             let parameters = parameters.trim_end_matches(',').split(", ");
-            let parameters: Vec<_> = parameters.map(rattle_parameter).collect();
-            let shape = format!("({}) -> {answer}", parameters.join(", "));
-            calls.insert(name.to_string(), shape);
+            let parameters = parameters.map(rattle_parameter).collect();
+            calls.insert(name.to_string(), shape(parameters, answer));
         }
     }
     calls

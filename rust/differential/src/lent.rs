@@ -1,0 +1,111 @@
+//! Tables that are lent to a call: filled with a pattern before it, so that every word can be seen to have stayed.
+
+/// A word of a lent table, and what it holds before the call.
+pub trait Word: Copy + Eq + std::fmt::Debug {
+    fn before(i: usize) -> Self;
+}
+
+impl Word for u32 {
+    fn before(i: usize) -> u32 {
+        0xA5A5_0000 ^ i as u32
+    }
+}
+
+impl Word for u64 {
+    fn before(i: usize) -> u64 {
+        0xA5A5_A5A5_0000_0000 ^ i as u64
+    }
+}
+
+/// Words behind the lent ones, which no call may touch.
+const BEHIND: usize = 4;
+
+/// A table of so many words, and a few more behind its end that are not lent.
+pub struct Lent<T> {
+    words: Vec<T>,
+    len: usize,
+}
+
+impl<T: Word> Lent<T> {
+    pub fn new(len: usize) -> Self {
+        Lent {
+            words: (0..len + BEHIND).map(T::before).collect(),
+            len,
+        }
+    }
+
+    pub fn len(&self) -> usize {
+        self.len
+    }
+
+    pub fn as_mut_ptr(&mut self) -> *mut T {
+        self.words.as_mut_ptr()
+    }
+
+    pub fn words(&self) -> &[T] {
+        &self.words[..self.len]
+    }
+
+    /// Whether the table now begins with `written`, and all after it is as it was before; or the first word that isn't.
+    pub fn holds(&self, written: &[T]) -> Result<(), String> {
+        let (first, rest) = self.words.split_at(written.len());
+        let wrong = if first == written {
+            let from = written.len();
+            let stayed = |(i, word): (usize, &T)| *word == T::before(from + i);
+            match rest.iter().enumerate().position(|word| !stayed(word)) {
+                None => return Ok(()),
+                Some(i) => from + i,
+            }
+        } else {
+            (0..).find(|&i| first[i] != written[i]).unwrap()
+        };
+        let right = written.get(wrong).copied().unwrap_or(T::before(wrong));
+        let behind = if wrong < self.len { "" } else { ", not lent" };
+        Err(format!(
+            "word {wrong} of the table{behind} is {:?}, not {right:?}",
+            self.words[wrong]
+        ))
+    }
+}
+
+/// A table of so many words that it cannot be filled: addresses without memory, all zeros, that may be read alone. A
+/// call that writes there ends the program.
+pub struct Reserved<T> {
+    begin: *mut T,
+    len: usize,
+}
+
+const READ: i32 = 1;
+const PRIVATE_ANONYMOUS_NORESERVE: i32 = 0x2 | 0x20 | 0x4000;
+
+extern "C" {
+    fn mmap(at: *mut u8, len: usize, allowed: i32, kind: i32, file: i32, from: i64) -> *mut u8;
+    fn munmap(at: *mut u8, len: usize) -> i32;
+}
+
+impl<T> Reserved<T> {
+    /// None where the machine does not give out so many addresses.
+    pub fn new(len: usize) -> Option<Self> {
+        let bytes = len * size_of::<T>();
+        let at = std::ptr::null_mut();
+        let begin = unsafe { mmap(at, bytes, READ, PRIVATE_ANONYMOUS_NORESERVE, -1, 0) };
+        (begin as isize != -1).then_some(Reserved {
+            begin: begin.cast(),
+            len,
+        })
+    }
+
+    pub fn len(&self) -> usize {
+        self.len
+    }
+
+    pub fn as_mut_ptr(&self) -> *mut T {
+        self.begin
+    }
+}
+
+impl<T> Drop for Reserved<T> {
+    fn drop(&mut self) {
+        unsafe { munmap(self.begin.cast(), self.len * size_of::<T>()) };
+    }
+}
