@@ -3,6 +3,8 @@
 use std::process::ExitCode;
 
 #[cfg(all(published, archive))]
+mod debug;
+#[cfg(all(published, archive))]
 mod function;
 #[cfg(all(published, archive))]
 mod io;
@@ -22,6 +24,7 @@ fn main() -> ExitCode {
         ("table", strings::rows),
         ("function", function::rows),
         ("parsing", parsing::rows),
+        ("debug", debug::rows),
     ])
 }
 

@@ -29,12 +29,24 @@ impl Whole {
         &self,
         bench: &Bench,
         name: &str,
+        ours: impl FnMut() -> (u64, u64),
+        rust: impl FnMut() -> (u64, u64),
+    ) {
+        let passes = (8 << 20) / self.bytes + 1;
+        self.row_of(bench, passes, name, ours, rust);
+    }
+
+    /// The same, with so many passes in a round: for work that grows faster than the bytes.
+    pub fn row_of(
+        &self,
+        bench: &Bench,
+        passes: usize,
+        name: &str,
         mut ours: impl FnMut() -> (u64, u64),
         mut rust: impl FnMut() -> (u64, u64),
     ) {
         let (given, expected) = (ours(), rust());
         assert_eq!(given, expected, "{name}: the sides read different values");
-        let passes = (8 << 20) / self.bytes + 1;
         let timed = |side: &mut dyn FnMut() -> (u64, u64)| {
             let begin = processor_time();
             for _ in 0..passes {
