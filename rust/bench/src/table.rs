@@ -5,8 +5,9 @@ use std::process::ExitCode;
 
 use harness::count;
 
-const USAGE: &str = "usage: bench [--rounds N] [LAYER..]
-Times every layer, or those named; N rounds each (default 5), of which the best counts.";
+const USAGE: &str = "usage: bench [--rounds N] [--full] [LAYER..]
+Times every layer, or those named; N rounds each (default 5), of which the best counts. --full adds sizes that take
+some minutes.";
 
 /// How many things a side read, and a sum over all their values.
 #[derive(Clone, Copy, PartialEq, Eq, Debug)]
@@ -43,6 +44,8 @@ pub fn processor_time() -> i64 {
 
 pub struct Bench {
     pub rounds: u32,
+    /// Whether sizes that take minutes are asked for.
+    pub full: bool,
 }
 
 /// The heading of a table of reads, one call each.
@@ -98,7 +101,10 @@ pub const SIZES: [usize; 2] = [1 << 20, 64 << 20];
 pub type Layer = (&'static str, fn(&Bench));
 
 pub fn main(layers: &[Layer]) -> ExitCode {
-    let mut bench = Bench { rounds: 5 };
+    let mut bench = Bench {
+        rounds: 5,
+        full: false,
+    };
     let mut names = Vec::new();
     let mut words = std::env::args().skip(1);
     while let Some(word) = words.next() {
@@ -108,6 +114,7 @@ pub fn main(layers: &[Layer]) -> ExitCode {
                 Some(n) if n > 0 => bench.rounds = n,
                 _ => return bad_usage(),
             },
+            "--full" => bench.full = true,
             _ if known => names.push(word),
             _ => return bad_usage(),
         }

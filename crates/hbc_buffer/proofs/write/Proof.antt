@@ -151,8 +151,7 @@ loop-again-2 c =
     let b = (c .before .before .before .before .before .before .before .before .before .before .before .before .before .before .before .before .before .before .before .before .before .pre .0) in
     let h = tag-there _ _ (c .before .before .before .before .before .before .before .before .before .before .before .before .before .before .before .before .before .before .before .before .before .pre .0) (c .before .before .before .before .before .before .before .before .before .before .before .before .before .before .before .byte .ensures .0) (c .before .before .before .before .before .before .before .before .before .before .before .before .before .before .bits .ensures) (c .before .before .before .before .before .before .before .before .before .before .before .bits2 .ensures) (c .before .before .before .before .before .before .before .before .before .before .byte2 .ensures .0) (c .before .before .before .before .before .before .before .before .before .length-of .ensures) (whole-tag (c .before .before .before .before .before .before .before .before .before .before .before .before .before .before .before .before .before .loop .inv .0) (c .before .before .before .before .before .before .before .before .before .before .before .before .before .before .before .before .loop-test .taken) (c .before .before .before .before .before .before .before .before .before .before .before .before .before .before .before .before .before .before .before .before .before .pre .0) (c .before .before .before .before .before .before .before .before .before .before .before .before .before .before .before .byte .ensures .0) (c .before .before .before .before .before .before .before .before .before .before .before .bits2 .ensures) (c .before .before .before .before .before .before .before .before .before .before .before .before .before .before .before .before .before .before .before .before .before .pre .5)) in
     let q = c .before .before .before .before .before .before .before .before .least .ensures in
-    let r = whole-room g l b h _ q (c .before .before .before .before .before .before .before .before .before .before .before .before .before .before .before .before .before .before .before .before .before .pre .5) in
-    (
+    let r = whole-room g l b h _ q (c .before .before .before .before .before .before .before .before .before .before .before .before .before .before .before .before .before .before .before .before .before .pre .5) in (
       rw (c .before .before .before .before .before .before .before .width-of .ensures ∙ ap widthOf (sym (c .before .before .before .before .before .before .before .before .before .before .before .before .before .before .bits .ensures))) (passed-more g l b h _ q r),
       known-next _ _ l (c .before .before .before .before .before .before .before .before .before .before .before .before .before .before .before .before .before .before .before .before .before .pre .2) (c .before .before .before .before .before .before .before .before .before .length-of .ensures) q (c .before .before .before .before .before .before .before .width-of .ensures),
       c .before .before .before .before .fill .ensures .0 ∙ kinds-more g l b h _ q _ r refl (c .before .before .before .before .before .before .before .before .before .before .before .before .before .before .before .before .before .loop .inv .2),

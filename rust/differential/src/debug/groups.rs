@@ -1,5 +1,9 @@
 //! The groups of inputs on which the two sides of the debug section are compared.
 
+mod differences;
+mod large;
+mod lists;
+
 use harness::Random;
 
 use super::{Answer, Case, ROWS};
@@ -17,7 +21,15 @@ pub fn compare(run: &mut Run) -> Compared {
     run.group("numbers of 9 to 11 bytes, in every position", long)?;
     run.group("callees in any order, equal addresses", callees)?;
     run.group("tables lent, word by word", tables)?;
+    run.group("tables lent, in every combination", lists::combined)?;
+    run.group("parts cut at every byte", lists::cut)?;
+    run.group("counts around the bytes left", lists::counts)?;
+    run.group("prefixes of 1 to 11 bytes, text behind", lists::prefixes)?;
+    run.group("offsets of parts in any order", lists::offsets)?;
+    run.group("all the shortest parts", lists::shortest)?;
+    run.group("many rows", large::many)?;
     run.group("2^30 and 2^30 + 1 bytes", longest)?;
+    run.group("the differences that docs list", differences::listed)?;
     run.group("random", |run| {
         let mut random = run.random(9);
         let lent = plenty(&mut random);
