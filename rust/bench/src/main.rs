@@ -3,6 +3,8 @@
 use std::process::ExitCode;
 
 #[cfg(all(published, archive))]
+mod buffer;
+#[cfg(all(published, archive))]
 mod io;
 #[cfg(all(published, archive))]
 mod strings;
@@ -13,7 +15,11 @@ mod whole;
 
 #[cfg(all(published, archive))]
 fn main() -> ExitCode {
-    table::main(&[("io", io::rows), ("table", strings::rows)])
+    table::main(&[
+        ("io", io::rows),
+        ("table", strings::rows),
+        ("buffer", buffer::rows),
+    ])
 }
 
 #[cfg(not(all(published, archive)))]
