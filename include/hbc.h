@@ -18,10 +18,13 @@
  *
  * Refusal numbers of these calls, in the order in which they are looked for
  *
+ *  12  a layout that there is not
  *   1  more than 2^30 bytes are lent
  *   6  alignment 0
- *   2  the cursor stands past the end; or a seek or align goes past the end
+ *   2  the cursor or a start stands past the end; or a seek or align goes past the end
  *   7  a series begins at or past the end, and is not empty
+ *  10  a span is reversed, or goes past the end
+ *  11  fewer rows are lent to be read than the count says
  *   4  a lent table has too few rows
  *   3  a read needs bytes past the end
  *   5  the tenth byte of a LEB128 number has bit 7 set
@@ -31,6 +34,7 @@
 #ifndef HBC_H
 #define HBC_H
 
+#include <stdbool.h>
 #include <stddef.h>
 #include <stdint.h>
 
@@ -161,6 +165,103 @@ uint64_t hbc_read_series(const uint8_t *s, size_t s_len, uint32_t offset, uint32
 uint64_t hbc_read_object(const uint8_t *keys, size_t keys_len, const uint8_t *values, size_t values_len, uint32_t yes,
                          uint32_t offset, uint32_t count, uint32_t *kinds, size_t kinds_len, uint64_t *payloads,
                          size_t payloads_len);
+
+/* ---- Function tables ----
+ *
+ * A layout is a number: 0 legacy (headers of 16 bytes), 1 modern (12). A row is HBC_FUNCTION_WORDS words:
+ *
+ *   layout, id, offset, param_count, size, name, info_offset, frame_size, flags; then
+ *   legacy  environment_size, read index, write index, 0, 0, 0, 0
+ *   modern  loop_depth, number_reg, non_ptr_reg, read cache, write cache, new_object, private_name
+ *
+ * `start` is the byte of the file at which the table of headers begins. A header with bit 5 of its flags set is read
+ * from its large header, at the place packed into it.
+ * Refused 12 before all else if `layout` is neither 0 nor 1. */
+#define HBC_FUNCTION_WORDS 16
+
+/* Reads functions 0 to count - 1 into rows 0 to count - 1 of `table`. Accepted, the answer is `count`; words past
+ * those rows stay.
+ * Refused 12; 1; 2 if `start` is past the end; 4 if the table has fewer than `count` rows; then, with the first
+ * function that cannot be read as place, 2 if its packed place is past the end, 3 if its header or its large header
+ * runs past the end. */
+uint64_t hbc_read_functions(const uint8_t *file, size_t file_len, uint32_t layout, size_t start, uint32_t count,
+                            uint32_t *table, size_t table_len);
+
+/* Brings a table up to date after the bytes from `low` up to `high` of the file changed, and nothing else: reads again
+ * those of the `count` functions that meet this span, from the file as it is now, into their rows. A function meets it
+ * if its header, or its large header if it is flagged, shares a byte with it; an empty span meets nothing.
+ * Accepted, the answer is how many were read again; every other word of the table stays.
+ * Refused 12; 1; 2 if `start` is past the end; 10 if `low` is above `high`, or `high` past the end; 4 as above; 3 with
+ * the first function whose header is not wholly in the file as place, whether it meets the span or not; then 2 or 3 as
+ * above for the first function that meets the span and cannot be read. */
+uint64_t hbc_refresh_functions(const uint8_t *file, size_t file_len, uint32_t layout, size_t start, uint32_t count,
+                               size_t low, size_t high, uint32_t *table, size_t table_len);
+
+/* Reads function `id` alone, into row 0 of `table`. Accepted, the answer is 1; words past that row stay.
+ * Refused 12; 1; 2 at place 0 if `start` is past the end; 4 if no row is lent; 2 or 3 with `id` as place. */
+uint64_t hbc_read_function(const uint8_t *file, size_t file_len, uint32_t layout, size_t start, uint32_t id,
+                           uint32_t *table, size_t table_len);
+
+/* Whether function `id` meets the bytes from `low` up to `high`, which need not be in the file: 1 if so, 0 if not, and
+ * 0 where its header is not wholly in the file, or the file is longer than 2^30 bytes.
+ * Refused 12 only. */
+uint64_t hbc_function_meets(const uint8_t *file, size_t file_len, uint32_t layout, size_t start, uint32_t id,
+                            size_t low, size_t high);
+
+/* ---- Handlers and trailing sections ---- */
+
+/* The exception handlers of functions 0 to count - 1. `functions` holds rows as hbc_read_functions writes them, row i
+ * for function i; only info_offset and flags are read, and may be any numbers. `rows` gets four words a handler,
+ * functions rising:
+ *
+ *   function, start, end, target
+ *
+ * A function has none if bit 3 of its flags is clear, if info_offset is 0 or at or past the end, if its place rounded
+ * up to 4 leaves no 4 bytes, if the count there is 0 or above 1000, or if one of its handlers is cut.
+ * Accepted, the answer is 0, and `*total` the number of rows; words past them stay.
+ * Refused 1; 11 if fewer than `count` function rows are lent; 4 if there are more handlers than rows of four words. */
+uint64_t hbc_read_handlers(const uint8_t *file, size_t file_len, const uint32_t *functions, size_t functions_len,
+                           uint32_t count, uint32_t *rows, size_t rows_len, size_t *total);
+
+/* The rows of hbc_trailing_sections. */
+#define HBC_REGEXP_TABLE 0
+#define HBC_REGEXP_STORAGE 1
+#define HBC_CJS_PAIRS 2
+#define HBC_FUNCTION_SOURCES 3
+#define HBC_BYTECODE 4
+#define HBC_SECTIONS 5
+
+/* Finds the sections from byte `start` on: regexp table (8 bytes an entry), regexp storage, CJS pairs (8), function
+ * sources (8) if `given`, each padded to 4 in the file; then bytecode to the end. `rows` gets HBC_SECTIONS rows of four
+ * words:
+ *
+ *   start, size with padding, entries (0 for storage and bytecode), and 1 if absent, else 0
+ *
+ * Function sources that are not given are absent, with 0 in the other words; `sources` is then not looked at. The
+ * entries are read by hbc_read_pair_table, at a section's start and with its entries as the count.
+ * Accepted, the answer is HBC_SECTIONS; words past the rows stay.
+ * Refused 1; 2 if `start` is past the end; 4 if fewer than HBC_SECTIONS rows are lent; then, section by section, 3 if
+ * its bytes and 2 if its padding goes past the end. */
+uint64_t hbc_trailing_sections(const uint8_t *file, size_t file_len, size_t start, uint32_t regexps, uint32_t storage,
+                               uint32_t cjs, bool given, uint32_t sources, uint32_t *rows, size_t rows_len);
+
+/* ---- The debug section ---- */
+
+/* The debug section at byte `offset` of the file, as rows in four tables:
+ *
+ *   strings  2 words: start in the file, after the length prefix, and byte length
+ *   scopes   5 words: offset in the scope part, parent (4294967295 if none), flags, first name, name count
+ *   names    1 word: a string's number, 4294967295 if there is no such string; scopes name parts of this table
+ *   callees  2 words: address, string's number; addresses rise
+ *
+ * At `offset` 0, 2^32 - 1, or at or past the end there is no debug information: accepted, with no rows.
+ * Accepted, the answer is 0, and the four counts are those of the rows; words past them stay. Refused, the counts stay
+ * too.
+ * Refused 1; 3 if the header of 28 bytes is cut; 4 if one of the tables has too few rows, looked at last. */
+uint64_t hbc_read_debug(const uint8_t *file, size_t file_len, uint32_t offset, uint32_t *strings, size_t strings_len,
+                        uint32_t *scopes, size_t scopes_len, uint32_t *names, size_t names_len, uint32_t *callees,
+                        size_t callees_len, size_t *string_count, size_t *scope_count, size_t *name_count,
+                        size_t *callee_count);
 
 #ifdef __cplusplus
 }

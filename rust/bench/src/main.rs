@@ -5,7 +5,13 @@ use std::process::ExitCode;
 #[cfg(all(published, archive))]
 mod buffer;
 #[cfg(all(published, archive))]
+mod debug;
+#[cfg(all(published, archive))]
+mod function;
+#[cfg(all(published, archive))]
 mod io;
+#[cfg(all(published, archive))]
+mod parsing;
 #[cfg(all(published, archive))]
 mod strings;
 #[cfg(all(published, archive))]
@@ -19,6 +25,9 @@ fn main() -> ExitCode {
         ("io", io::rows),
         ("table", strings::rows),
         ("buffer", buffer::rows),
+        ("function", function::rows),
+        ("parsing", parsing::rows),
+        ("debug", debug::rows),
     ])
 }
 

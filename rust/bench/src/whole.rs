@@ -34,13 +34,18 @@ impl Whole {
     ) {
         let (given, expected) = (ours(), rust());
         assert_eq!(given, expected, "{name}: the sides read different values");
-        let passes = (8 << 20) / self.bytes + 1;
+        // As many passes as make a fiftieth of a second, one at least.
         let timed = |side: &mut dyn FnMut() -> (u64, u64)| {
             let begin = processor_time();
-            for _ in 0..passes {
+            let mut passes = 0;
+            loop {
                 black_box(side());
+                passes += 1;
+                let time = processor_time() - begin;
+                if time > 20_000_000 {
+                    return time as f64 / f64::from(passes);
+                }
             }
-            (processor_time() - begin) as f64 / passes as f64
         };
         let mut best = [f64::INFINITY; 2];
         for _ in 0..bench.rounds {

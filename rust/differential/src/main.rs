@@ -6,9 +6,15 @@ use std::process::ExitCode;
 #[cfg(all(published, archive))]
 mod buffer;
 #[cfg(all(published, archive))]
+mod debug;
+#[cfg(all(published, archive))]
+mod function;
+#[cfg(all(published, archive))]
 mod io;
 #[cfg(all(published, archive))]
 mod lent;
+#[cfg(all(published, archive))]
+mod parsing;
 #[cfg(all(published, archive))]
 mod run;
 #[cfg(all(published, archive))]
@@ -17,6 +23,8 @@ mod search;
 mod shown;
 #[cfg(all(published, archive))]
 mod table;
+#[cfg(all(published, archive))]
+mod words;
 
 #[cfg(all(published, archive))]
 fn main() -> ExitCode {
@@ -39,6 +47,24 @@ fn main() -> ExitCode {
             compare: buffer::compare,
             record: None,
             replay: buffer::replay,
+        },
+        Layer {
+            name: "function",
+            compare: function::compare,
+            record: None,
+            replay: function::replay,
+        },
+        Layer {
+            name: "parsing",
+            compare: parsing::compare,
+            record: None,
+            replay: parsing::replay,
+        },
+        Layer {
+            name: "debug",
+            compare: debug::compare,
+            record: None,
+            replay: debug::replay,
         },
     ])
 }

@@ -1,0 +1,174 @@
+//! The function tables: the whole table at once, and what a small edit costs.
+
+use harness::Random;
+use hbc_sys::*;
+use published::file::parser::function::parse_function_headers;
+use published::format::{empty_header, FunctionHeaderLayout, FLAG_OVERFLOWED};
+use published::io::ByteReader;
+
+use crate::table::{Bench, SIZES};
+use crate::whole::{heading, Whole};
+
+const ROW: usize = 16;
+const START: usize = 128;
+
+/// A layout's number and name, the bytes of a header, and those of a large header with its padding.
+const LAYOUTS: [(u32, &str, usize, usize); 2] = [(0, "legacy", 16, 32), (1, "modern", 12, 40)];
+
+/// One function of this many has a large header, where nothing else is said.
+const LARGE: usize = 16;
+
+pub fn rows(bench: &Bench) {
+    heading(
+        "Function tables: one call for the whole table, one function of 16 with a large header. The Rust makes a vector;",
+        "ours writes into lent words, which are there already, or made anew each time as the vector is.",
+        "function",
+    );
+    for (layout, name, ..) in LAYOUTS {
+        for size in SIZES {
+            let file = File::filling(layout, size, LARGE);
+            file.read(bench, &format!("read {name}"));
+            file.read_anew(bench, &format!("read {name}, table made anew"));
+        }
+        let [small, _] = SIZES;
+        let file = File::filling(layout, small, usize::MAX);
+        file.read(bench, &format!("read {name}, none large"));
+        let file = File::filling(layout, small, 1);
+        file.read(bench, &format!("read {name}, all large"));
+        for count in [10_000, 100_000, 1_000_000] {
+            let file = File::new(layout, count, LARGE);
+            file.read(bench, &format!("read {name}"));
+        }
+    }
+    heading(
+        "A table brought up to date after an edit of four bytes, against the Rust's fresh read of the edited file.",
+        "The edit is in a header in the middle of the table, or in the last large header.",
+        "function",
+    );
+    for (layout, name, own, _) in LAYOUTS {
+        for size in SIZES {
+            let file = File::filling(layout, size, LARGE);
+            let header = START + own * (file.count / 2);
+            file.refresh(bench, &format!("refresh {name}, header"), header);
+            file.refresh(bench, &format!("refresh {name}, large"), file.last);
+        }
+    }
+}
+
+/// A table of headers, and the large ones behind it in the same order.
+struct File {
+    layout: u32,
+    count: usize,
+    bytes: Vec<u8>,
+    /// Where the last large header stands.
+    last: usize,
+}
+
+impl File {
+    /// As many functions as a file of this size holds with their large headers, of which there is one for `one_in`.
+    fn filling(layout: u32, size: usize, one_in: usize) -> File {
+        let (_, _, own, large) = LAYOUTS[layout as usize];
+        let each = own as f64 + large as f64 / one_in as f64;
+        File::new(layout, ((size - START) as f64 / each) as usize, one_in)
+    }
+
+    fn new(layout: u32, count: usize, one_in: usize) -> File {
+        let mut random = Random::new(1);
+        let (_, _, own, large) = LAYOUTS[layout as usize];
+        let table = START + count * own;
+        let size = table + count / one_in * large;
+        let mut bytes = Vec::with_capacity(size + 8);
+        while bytes.len() < size {
+            bytes.extend(random.word().to_le_bytes());
+        }
+        bytes.truncate(size);
+        let (mut place, mut last) = (table, table);
+        for i in 0..count {
+            let header = &mut bytes[START + i * own..][..own];
+            header[own - 1] &= !FLAG_OVERFLOWED;
+            // By chance, so that no pattern can be learnt, as long as there is room.
+            if random.below(one_in) == 0 && place + large <= size {
+                header[own - 1] |= FLAG_OVERFLOWED;
+                let [a, b, c, d] = (place as u32).to_le_bytes();
+                header[..3].copy_from_slice(&[a, b, if layout == 0 { 0 } else { c }]);
+                header[3] &= 0xFE;
+                if layout == 0 {
+                    header[8..11].copy_from_slice(&[c, d, 0]);
+                    header[11] &= 0xFE;
+                } else {
+                    header[5] = header[5] & 0x3F | d << 6;
+                    header[6] = header[6] & 0xC0 | d >> 2;
+                }
+                last = place;
+                place += large;
+            }
+        }
+        File {
+            layout,
+            count,
+            bytes,
+            last,
+        }
+    }
+
+    fn published(&self) -> (u64, u64) {
+        let layout = match self.layout {
+            0 => FunctionHeaderLayout::Legacy16,
+            _ => FunctionHeaderLayout::Modern12,
+        };
+        let mut header = empty_header(layout);
+        header.function_count = self.count as u32;
+        let mut reader = ByteReader::new(&self.bytes);
+        reader.seek(START).unwrap();
+        let rows = parse_function_headers(&mut reader, &header).unwrap();
+        let sampled = [0, rows.len() / 2, rows.len() - 1];
+        let sum = sampled.map(|i| u64::from(rows[i].bytecode_size_in_bytes()));
+        (rows.len() as u64, sum.iter().sum())
+    }
+
+    fn ours(&self, table: &mut [u32]) -> (u64, u64) {
+        let (s, len) = (self.bytes.as_ptr(), self.bytes.len());
+        let (words, lent) = (table.len(), table.as_mut_ptr());
+        let count = self.count as u32;
+        let read = unsafe { hbc_read_functions(s, len, self.layout, START, count, lent, words) };
+        let sampled = [0, self.count / 2, self.count - 1];
+        let sum = sampled.map(|i| u64::from(table[i * ROW + 4]));
+        (read, sum.iter().sum())
+    }
+
+    fn size(&self) -> Whole {
+        Whole {
+            bytes: self.bytes.len(),
+            items: self.count,
+        }
+    }
+
+    fn read(&self, bench: &Bench, name: &str) {
+        let mut table = vec![0; self.count * ROW];
+        let lent = || self.ours(&mut table);
+        self.size().row(bench, name, lent, || self.published());
+    }
+
+    fn read_anew(&self, bench: &Bench, name: &str) {
+        let made = || self.ours(&mut vec![0; self.count * ROW]);
+        self.size().row(bench, name, made, || self.published());
+    }
+
+    fn refresh(&self, bench: &Bench, name: &str, low: usize) {
+        let mut table = vec![0; self.count * ROW];
+        self.ours(&mut table);
+        let (s, len) = (self.bytes.as_ptr(), self.bytes.len());
+        let (layout, count, high) = (self.layout, self.count as u32, low + 4);
+        let ours = || {
+            let (words, lent) = (table.len(), table.as_mut_ptr());
+            let met = unsafe {
+                hbc_refresh_functions(s, len, layout, START, count, low, high, lent, words)
+            };
+            assert_eq!(met, 1, "one function meets the edit");
+            let sampled = [0, self.count / 2, self.count - 1];
+            let sum = sampled.map(|i| u64::from(table[i * ROW + 4]));
+            (count as u64, sum.iter().sum())
+        };
+        self.size().row(bench, name, ours, || self.published());
+    }
+}
