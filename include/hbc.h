@@ -22,6 +22,7 @@
  *   1  more than 2^30 bytes are lent
  *   6  alignment 0
  *   2  the cursor or a start stands past the end; or a seek or align goes past the end
+ *   7  a series begins at or past the end, and is not empty
  *  10  a span is reversed, or goes past the end
  *  11  fewer rows are lent to be read than the count says
  *   4  a lent table has too few rows
@@ -138,6 +139,32 @@ uint64_t hbc_decode_strings(uint32_t count, const uint32_t *kinds, size_t kinds_
  * Never refused, at any length. */
 void hbc_string_bytes(const uint8_t *storage, size_t storage_len, const uint32_t *rows, size_t rows_len, size_t index,
                       size_t *start, size_t *len);
+
+/* ---- Literals ----
+ *
+ * A value has a kind: 0 null, 1 true, 2 false, 3 float, 4 string, 5 integer. */
+
+/* One value at the cursor, which moves behind it. `tag` is its tag byte, of which bits 4 to 6 count. `*number` is
+ * written for kind 3 alone (a NaN comes out as a NaN of any bits), `*word` for kind 4 (the string's number) and kind 5
+ * (in two's complement).
+ * Refused 1; 2 if the cursor is past the end; 3 if fewer bytes are left than the value has. */
+uint64_t hbc_read_literal(const uint8_t *s, size_t s_len, size_t *at, uint8_t tag, uint32_t *kind, double *number,
+                          uint32_t *word);
+
+/* `count` values of the series that begins at `offset`: value i has its kind in `kinds[i]`, and in `payloads[i]` a
+ * float's bits, a string's number, an integer as 32-bit two's complement, or else 0.
+ * Accepted, the answer is how many bytes the series used, a number below 2^32; for `count` 0 none, at any `offset`.
+ * Words past the first `count` of either table stay.
+ * Refused 1; 7 if `offset` is at or past the end and `count` is not 0; 4 if a table has fewer than `count` words; 3 if
+ * the bytes end before the values do, with the number of whole values before that as place. */
+uint64_t hbc_read_series(const uint8_t *s, size_t s_len, uint32_t offset, uint32_t count, uint32_t *kinds,
+                         size_t kinds_len, uint64_t *payloads, size_t payloads_len);
+
+/* The same of an object's keys (`yes` not 0) or of its values (`yes` 0); the other buffer is not looked at, and may be
+ * of any length. The bytes used are those from `offset` on of the named one; for `count` 0 its empty beginning. */
+uint64_t hbc_read_object(const uint8_t *keys, size_t keys_len, const uint8_t *values, size_t values_len, uint32_t yes,
+                         uint32_t offset, uint32_t count, uint32_t *kinds, size_t kinds_len, uint64_t *payloads,
+                         size_t payloads_len);
 
 /* ---- Function tables ----
  *

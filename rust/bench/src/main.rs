@@ -3,6 +3,8 @@
 use std::process::ExitCode;
 
 #[cfg(all(published, archive))]
+mod buffer;
+#[cfg(all(published, archive))]
 mod debug;
 #[cfg(all(published, archive))]
 mod function;
@@ -22,6 +24,7 @@ fn main() -> ExitCode {
     table::main(&[
         ("io", io::rows),
         ("table", strings::rows),
+        ("buffer", buffer::rows),
         ("function", function::rows),
         ("parsing", parsing::rows),
         ("debug", debug::rows),

@@ -37,5 +37,6 @@ pub fn difference(call: String, expected: &str, given: &str, replay: Option<Stri
     Difference(lines)
 }
 
-/// Bytes that a difference still prints.
+/// Bytes that a difference still prints, and lent words that a replay still makes.
 pub const PRINTED: usize = 4096;
+pub const LENT: usize = 1 << 24;

@@ -10,7 +10,7 @@ use crate::io::LIMIT;
 use crate::lent::{Lent, Reserved};
 use crate::run::{number as parsed, Difference};
 use crate::search::last;
-use crate::shown::{argued, argument, difference, said, PRINTED};
+use crate::shown::{argued, argument, difference, said, LENT, PRINTED};
 
 /// One series: of which buffer, from where, how many values, into tables of how many words each.
 #[derive(Clone, Copy)]
@@ -207,7 +207,7 @@ impl Case<'_> {
             format!("{call:?} at {offset}, {count} values into {kinds} kinds and {payloads} payloads, {bytes} bytes"),
             &said_used(expected.number, expected.place),
             &given,
-            (bytes <= PRINTED).then(replay),
+            (bytes <= PRINTED && kinds.max(payloads) <= &LENT).then(replay),
         )
     }
 }

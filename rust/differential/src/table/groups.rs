@@ -237,8 +237,8 @@ fn ruler(len: usize) -> Vec<u8> {
     (0..len as u8).collect()
 }
 
-/// All sequences of up to four runs of up to two strings, and long and empty ones between; up to seven strings, of
-/// which more or fewer are asked for.
+/// All sequences of up to four runs of up to two strings, with up to seven strings, of which more or fewer are asked
+/// for; and long runs, with empty ones between.
 fn kind_runs(run: &mut Run) -> Compared {
     let storage = ruler(16);
     let entries: Vec<u32> = (0..7).map(|i| small(i % 3 == 0, i, 2)).collect();
@@ -288,6 +288,13 @@ fn kind_runs(run: &mut Run) -> Compared {
                 let kinds = &[first, second, third];
                 decode(run, strings::Case { kinds, ..all })?;
             }
+        }
+    }
+    // Each bit of a length by itself.
+    for kind in [0, IDENTIFIER] {
+        for bit in 0..31 {
+            let kinds = &[kind | 1 << bit, !kind & IDENTIFIER | 9];
+            decode(run, strings::Case { kinds, ..all })?;
         }
     }
     Ok(())

@@ -9,7 +9,7 @@ use published::io::ByteReader;
 use crate::io::LIMIT;
 use crate::lent::{Lent, Reserved};
 use crate::run::{number as parsed, Difference};
-use crate::shown::{argued, argument, difference, said, PRINTED};
+use crate::shown::{argued, argument, difference, said, LENT, PRINTED};
 
 #[derive(Clone, Copy, PartialEq, Eq, Debug)]
 pub enum Op {
@@ -195,7 +195,7 @@ impl Case<'_> {
             format!("{op:?} at {at}, {count} entries into {lent} words, {bytes} bytes of input"),
             &expected.words(),
             &given,
-            (bytes <= PRINTED).then(replay),
+            (bytes <= PRINTED && *lent <= LENT).then(replay),
         )
     }
 }
