@@ -10,7 +10,7 @@ const USAGE: &str = "usage: differential [--seconds N] [--seed S] [--full] [LAYE
        differential [--seed S] --record FILE [LAYER]
        differential --replay LAYER WORD..
 Compares every layer, or those named. Fixed inputs are always compared whole; random ones until N seconds have
-passed in all (default 20). --full adds inputs that need some 8 GB of memory and a minute. --record writes a sample
+passed in all (default 20). --full adds inputs that need 8 GB of memory and many minutes. --record writes a sample
 of the Rust's answers, as the LAYER_vectors program reads it; the layer is io if none is named. --replay compares one
 input, in the words that a difference prints.";
 
