@@ -15,8 +15,8 @@ use Rattle.hbc_buffer_literal.proofs.Laws.{width-most, kind-any}
 use Rattle.hbc_buffer.specs.declared.Series.the-variants as series
 use Rattle.hbc_buffer.specs.Series.{Run, runOf, tagAt, headAt, after, usedOf, valueAt, kindAt, payloadAt, filled}
 use Rattle.hbc_buffer.specs.Fill.{byteAt, lengthOf, filledFrom, Whole}
-use Rattle.hbc_buffer.proofs.Fills.{from-filled, small-product}
-use Rattle.hbc_buffer.proofs.Tags.{On, tag-on, tag-cut, short-tag, short-length, head-here, head-skip, head-no}
+use Rattle.hbc_buffer.proofs.Fills.{from-filled}
+use Rattle.hbc_buffer.proofs.Tags.{On, tag-on, tag-cut, short-tag, short-length, none-width, head-here, head-skip, head-no}
 use Rattle.hbc_buffer.proofs.Runs.{Ready, ready-head, after-none, refused-stays, run-past, run-cut, run-value}
 
 -- `done` of `count` values are read, the run is spent, and only empty tags stand between its end and `at`
@@ -219,8 +219,8 @@ known-next b y {l} {n} {w} some most len least wide =
       narrow = rw wide (width-most (field 4 3 b));
     }
 
-pub known-again : {count done last size wide : ℕ} → Known count done last size wide → done < count → Known count (done + size) last size wide
-known-again k some = record { is = λ more low. k .is some low; small = k .small; narrow = k .narrow }
+pub known-on : {count done last size wide : ℕ} (m : ℕ) → Known count done last size wide → done < count → Known count (done + m) last size wide
+known-on m k some = record { is = λ more low. k .is some low; small = k .small; narrow = k .narrow }
 
 module _ {s : List ℕ} {from count done at : ℕ} (g : Passed s from count done at) (some : done < count) (short : length s ≤ limit)
     {last size wide : ℕ} (k : Known count done last size wide) {b : ℕ} (first : b ≡ byteAt s at) (spare : ℕ)
@@ -249,3 +249,36 @@ module _ {s : List ℕ} {from count done at : ℕ} (g : Passed s from count done
   pub again-payloads : {x : List ℕ} (x₀ : List ℕ) → x ≡ filled done (payloadAt s (cursorAt from)) x₀
       → filledFrom done size (λ i. leAt s (at + 1 + i * wide) wide) x ≡ filled (done + size) (payloadAt s (cursorAt from)) x₀
   again-payloads x₀ h = rw (known .1) (payloads-more g some short there size least x₀ room h)
+
+-- ---- tags without bytes
+
+pub within-tag : (at h : ℕ) {n : ℕ} → at + 1 + h ≤ n → at < n
+within-tag at h e = omega (arith, e)
+
+none-le : (s : List ℕ) (p w : ℕ) → w ≡ 0 → 0 ≡ leAt s p w
+unfolding leAt
+none-le s p w e = rw e
+
+module _ {s : List ℕ} {from count done at : ℕ} (g : Passed s from count done at) (some : done < count) (short : length s ≤ limit)
+    {b : ℕ} (first : b ≡ byteAt s at) (low : b < 48) (inside : at < length s) {l m : ℕ} (len : l ≡ field 0 4 b) (fewer : m ≡ min l (count - done)) where
+  tagged-none : tagAt s (cursorAt at) ≡ got (runOf (field 4 3 b) l) (cursorAt (at + 1))
+  tagged-none = rw len (short-tag s at short first (omega (arith, low)) (omega (arith, inside)))
+
+  room-none : m * widthOf (field 4 3 b) ≤ length s - (at + 1)
+  room-none = rw (none-width b low, mul-zero) (omega arith)
+
+  pub none-more : Passed s from count (done + m) (at + 1)
+  none-more =
+      let e : at + 1 + m * widthOf (field 4 3 b) ≡ at + 1 = rw (none-width b low, mul-zero) (add-zero (at + 1)) in
+      rw e at (passed-more g some short tagged-none m fewer room-none)
+
+  pub none-kinds : {t v : ℕ} {x : List ℕ} (x₀ : List ℕ) → t ≡ field 4 3 b → v ≡ kindOf (literalOf t 0) → x ≡ filled done (kindAt s (cursorAt from)) x₀
+      → filledFrom done m (λ _. v) x ≡ filled (done + m) (kindAt s (cursorAt from)) x₀
+  none-kinds x₀ e f h = kinds-more g some short tagged-none m fewer x₀ room-none (rw e at f) h
+
+  pub none-payloads : {x : List ℕ} (x₀ : List ℕ) → x ≡ filled done (payloadAt s (cursorAt from)) x₀
+      → filledFrom done m (λ _. 0) x ≡ filled (done + m) (payloadAt s (cursorAt from)) x₀
+  none-payloads x₀ h =
+      rw h
+      (from-filled done m (λ _. 0) (payloadAt s (cursorAt from)) x₀
+      (λ i j. none-le s (at + 1 + i * widthOf (field 4 3 b)) (widthOf (field 4 3 b)) (none-width b low) ∙ passed-value g some short tagged-none m fewer (λ t v. v) room-none i j))

@@ -17,6 +17,7 @@ use Rattle.hbc_io.specs.declared.Refusal.{Refusal}
 use Rattle.hbc_io.proofs.Reading.{then-got, valued-got}
 use Rattle.hbc_io.proofs.Plains.{plain-got, plain-is}
 use Rattle.hbc_buffer_literal.specs.Literal.{widthOf}
+use Rattle.hbc_buffer_literal.proofs.Laws.{width-none}
 use Rattle.hbc_buffer.specs.Fill.{byteAt, lengthOf}
 use Rattle.hbc_buffer.specs.Series.{Run, runOf, lengthAt, tagAt, headAt}
 
@@ -96,6 +97,16 @@ width-at (suc (suc (suc (suc (suc (suc (suc (suc t)))))))) h = absurd (omega ari
 
 pub width-nibble : (b : ℕ) {t r : ℕ} → t ≡ field 4 3 b → r ≡ field (4 * t) 4 1092911104 → r ≡ widthOf (field 4 3 b)
 width-nibble b e f = f ∙ width-at _ (rw e (field-lt 3 4 3 b (omega arith))) ∙ ap widthOf e
+
+three : (b : ℕ) → b < 48 → field 4 3 b < 3
+unfolding field
+three b h = omega (arith, h)
+
+-- null, true and false have no bytes
+pub none-width : (b : ℕ) → b < 48 → widthOf (field 4 3 b) ≡ 0
+none-width b h =
+    let t = three b h in
+    width-none (λ e. omega (arith, t, e)) (λ e. omega (arith, t, e)) (λ e. omega (arith, t, e)) (λ e. omega (arith, t, e)) (λ e. omega (arith, t, e))
 
 -- ---- the next tag with values
 

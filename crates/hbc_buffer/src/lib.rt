@@ -101,7 +101,14 @@ fn check(s: &[u8], from: usize, count: usize) -> Series
     let mut wide: usize = 0;
     while done < count {
         let b = byte(s, at);
-        if again(b, last, size, wide, count - done, s.len() - at, 0) {
+        if b < 48 {
+            // no bytes follow such a tag, whatever its length
+            if s.len() <= at {
+                return Series::Refused(refuse(3, done as u32));
+            }
+            at += 1;
+            done += least(bits(b, 0, 4) as usize, count - done);
+        } else if again(b, last, size, wide, count - done, s.len() - at, 0) {
             at += 1 + size * wide;
             done += size;
         } else {
@@ -215,6 +222,20 @@ fn fill_short(
     }
 }
 
+// Both words of n values that have no bytes.
+fn fill_none(kinds: &mut [u32], payloads: &mut [u64], k: u32, first: usize, n: usize)
+    requires { ⌜ (first + n ≤ length (now kinds)) × (first + n ≤ length (now payloads)) ⌝ }
+    ensures { λ _. ⌜ now (kinds .exit) ≡ filledFrom first n (λ _. k) (now (kinds .entry)) ⌝ }
+    ensures { λ _. ⌜ now (payloads .exit) ≡ filledFrom first n (λ _. 0) (now (payloads .entry)) ⌝ }
+{
+    let mut i: usize = 0;
+    while i < n {
+        kinds[first + i] = k;
+        payloads[first + i] = 0;
+        i += 1;
+    }
+}
+
 // Both words of n values of one run: a short one by one loop, a long one by its width.
 fn fill(
     s: &[u8],
@@ -256,7 +277,13 @@ fn write(s: &[u8], from: usize, count: usize, kinds: &mut [u32], payloads: &mut 
     while done < count {
         let b = byte(s, at);
         let tag = bits(b, 4, 3);
-        if again(b, last, size, wide, count - done, s.len() - at, 8) {
+        if b < 48 {
+            // no bytes follow such a tag, whatever its length
+            let n = least(bits(b, 0, 4) as usize, count - done);
+            fill_none(kinds, payloads, kind(tag), done, n);
+            at += 1;
+            done += n;
+        } else if again(b, last, size, wide, count - done, s.len() - at, 8) {
             fill_short(s, at + 1, wide, kind(tag), kinds, payloads, done, size);
             at += 1 + size * wide;
             done += size;

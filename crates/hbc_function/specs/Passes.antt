@@ -7,12 +7,12 @@ use native.Mathlib.Omega.{arith}
 use native.Mathlib.Numerals.{add-one}
 use native.Mathlib.Decide.{le-ind}
 use lib.ListN.{length}
-use lib.Dec.{ltb}
-use borrow.Author.Tests.{ltb-true, ltb-false}
+use lib.Dec.{ltb, leb}
+use borrow.Author.Tests.{ltb-true, ltb-false, le-leb, lt-leb}
 use Rattle.hbc_io.specs.declared.Refusal.{Refusal}
 use Rattle.hbc_header.specs.declared.Record.{Record}
 use Rattle.hbc_header.specs.Answer.{Answer, gives, refuses, asked}
-use Rattle.hbc_function.specs.Table.{counted, step, scan, putRow, putRows}
+use Rattle.hbc_function.specs.Table.{counted, step, scan, putRow, putRows, all}
 use Rattle.hbc_function.specs.Next.{Skipped, Next}
 use Rattle.hbc_function.specs.Laws.{step-read, step-refused, scan-more, scan-kept, scan-stops, scan-done, Put, put-none, put-more}
 
@@ -49,6 +49,27 @@ module _ {chosen : ℕ → Bool} (f : ℕ → Answer Record) {from count r : ℕ
   pub put-next : (t : List ℕ) → putRows chosen f t r ≡ putRows chosen f t from
   unfolding putRows
   put-next t = same (putRows chosen f t) (λ k p. rw p) (v .skipped)
+
+-- ---- rows from one on
+
+module _ (f : ℕ → Answer Record) (t : List ℕ) (i : ℕ) where
+  pub put-below : putRows (leb i) f t i ≡ t
+  unfolding putRows
+  put-below =
+      let v : Skipped (leb i) 0 i i = record { after = omega arith; within = omega arith; none = λ k p q. lt-leb i k q } in
+      same (putRows (leb i) f t) (λ k p. rw p) v
+
+  pub put-from : Put (leb i) f i t t
+  put-from = record { is = sym put-below; long = refl }
+
+  pub put-one : putRows (leb i) f t (i + 1) ≡ putRow i (f i) t
+  unfolding putRows
+  put-one = rw (add-one, le-leb i i (omega arith)) (ap (putRow i (f i)) put-below)
+
+pub put-whole : (f : ℕ → Answer Record) (t : List ℕ) (n : ℕ) → putRows (leb 0) f t n ≡ putRows all f t n
+unfolding putRows
+put-whole f t zero = refl
+put-whole f t (suc n) = rw (le-leb 0 n (omega arith)) (ap (putRow n (f n)) (put-whole f t n))
 
 -- ---- once as many are counted as there are, no more rows are put
 

@@ -2,6 +2,7 @@
 ghost use mathlib.Core.Path.{_≡_};
 ghost use Prim.Native.Nat.{_+_, _*_, _^_, _≤_, _<_};
 ghost use lib.ListN.{length};
+ghost use lib.Dec.{leb};
 ghost use Rattle.hbc_header.specs.Answer.{gives, ofReading, asked};
 ghost use Rattle.hbc_header.specs.Header.{functionAt};
 ghost use Rattle.hbc_header.specs.Row.{width};
@@ -67,14 +68,14 @@ fn check_all(s: &[u8], layout: Layout, start: usize, count: u32) -> Reading
     Reading::Read
 }
 
-// The rows of functions 0 to count - 1 into their places.
-fn write_all(s: &[u8], layout: Layout, start: usize, count: u32, table: &mut [u32])
+// The rows of functions `from` to `to` - 1 into their places. All rows are written by this one loop, so that what writes a row is in it, not called from it.
+fn write_rows(s: &[u8], layout: Layout, start: usize, from: u32, to: u32, table: &mut [u32])
     requires { ⌜ (start ≤ length (now s)) × (length (now s) ≤ 2 ^ 30) ⌝ }
-    requires { ⌜ count * width ≤ length (now table) ⌝ }
-    ensures { λ _. ⌜ now (table .exit) ≡ putRows all (functionAt (now (s .entry)) layout start) (now (table .entry)) count ⌝ }
+    requires { ⌜ (from ≤ to) × (to * width ≤ length (now table)) ⌝ }
+    ensures { λ _. ⌜ now (table .exit) ≡ putRows (leb from) (functionAt (now (s .entry)) layout start) (now (table .entry)) to ⌝ }
 {
-    let mut id: u32 = 0;
-    while id < count {
+    let mut id = from;
+    while id < to {
         write_row(s, layout, start, id, table);
         id += 1;
     }
@@ -101,7 +102,7 @@ pub fn read_functions(
     }
     let found = check_all(file, layout, start, count);
     if let Reading::Read = found {
-        write_all(file, layout, start, count, table);
+        write_rows(file, layout, start, 0, count, table);
     }
     found
 }
@@ -177,7 +178,7 @@ fn patch_met(
     let mut id = first;
     while 0 < left {
         id = next_met(s, layout, start, low, high, id, count);
-        write_row(s, layout, start, id, table);
+        write_rows(s, layout, start, id, id + 1, table);
         id += 1;
         left -= 1;
     }

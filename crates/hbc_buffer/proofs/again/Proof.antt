@@ -3,8 +3,6 @@ use Rattle.hbc_buffer.proofs.Fills.{falsely, small-product}
 use borrow.Author.Needs.{needs}
 use Rattle.hbc_buffer.proofs.again.Statement.{statement}
 use Rattle.hbc_buffer.proofs.again.Tie as tie
-use Rattle.hbc_buffer.proofs.again.Reads as reads
-use Rattle.hbc_buffer.proofs.again.Lts as lts
 
 mul-if4 : tie.Need-mul-if4
 mul-if4 c = omega (arith, small-product (c .before .before .before .args .size) (c .before .before .before .args .wide) (c .before .before .before .pre .0) (c .before .before .before .pre .1))

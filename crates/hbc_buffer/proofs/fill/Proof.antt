@@ -4,12 +4,6 @@ use Rattle.hbc_buffer.proofs.Fills.{small-product}
 use borrow.Author.Needs.{needs}
 use Rattle.hbc_buffer.proofs.fill.Statement.{statement}
 use Rattle.hbc_buffer.proofs.fill.Tie as tie
-use Rattle.hbc_buffer.proofs.fill.Reads as reads
-use Rattle.hbc_buffer.proofs.fill.Lts as lts
-use Rattle.hbc_buffer.proofs.fill_kinds.Reads as fill-kinds-reads
-use Rattle.hbc_buffer.proofs.fill_run.Reads as fill-run-reads
-use Rattle.hbc_buffer.proofs.fill_short.Reads as fill-short-reads
-use Rattle.hbc_buffer_literal.proofs.kind.Reads as kind-reads
 
 kind-requires : tie.Need-kind-requires
 kind-requires c κs = search needs

@@ -9,10 +9,6 @@ use Rattle.hbc_buffer.proofs.Fills.{from-more, from-length, run-room-8,
 use borrow.Author.Needs.{needs}
 use Rattle.hbc_buffer.proofs.fill_short.Statement.{statement}
 use Rattle.hbc_buffer.proofs.fill_short.Tie as tie
-use Rattle.hbc_buffer.proofs.fill_short.Reads as reads
-use Rattle.hbc_buffer.proofs.fill_short.Lts as lts
-use Rattle.hbc_bits.proofs.bits.Reads as bits-reads
-use Rattle.hbc_buffer.proofs.word.Reads as word-reads
 
 abbrev Inv-loop : tie.InvT-loop
 Inv-loop s at w k kinds₀ payloads₀ first n p₀ i₀ kinds payloads p i =

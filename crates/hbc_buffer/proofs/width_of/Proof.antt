@@ -4,9 +4,6 @@ use Rattle.hbc_buffer.proofs.Tags.{width-nibble}
 use borrow.Author.Needs.{needs}
 use Rattle.hbc_buffer.proofs.width_of.Statement.{statement}
 use Rattle.hbc_buffer.proofs.width_of.Tie as tie
-use Rattle.hbc_buffer.proofs.width_of.Reads as reads
-use Rattle.hbc_buffer.proofs.width_of.Lts as lts
-use Rattle.hbc_bits.proofs.bits.Reads as bits-reads
 
 bits-requires : tie.Need-bits-requires
 bits-requires c κs = search needs

@@ -1,9 +1,10 @@
+use mathlib.Core.Path.{_∙_}
 use borrow.Author.Needs.{needs}
 use Prim.Native.Nat.{_-_}
 use native.Mathlib.Omega.{arith}
 use Rattle.hbc_header.specs.Header.{functionAt}
 use Rattle.hbc_header_ground.specs.Meets.{meets}
-use Rattle.hbc_function.specs.Passes.{Patched, patch-first, patch-in, patch-more, patch-done}
+use Rattle.hbc_function.specs.Passes.{put-one, Patched, patch-first, patch-in, patch-more, patch-done}
 use Rattle.hbc_function.proofs.patch_met.Statement.{statement}
 use Rattle.hbc_function.proofs.patch_met.Tie as tie
 
@@ -19,8 +20,11 @@ loop-holds c = patch-first (c .before .before .pre .1 .0)
 next-met-requires : tie.Need-next-met-requires Inv-loop μ-loop
 next-met-requires c κs = search needs
 
-write-row-requires : tie.Need-write-row-requires Inv-loop μ-loop
-write-row-requires c κs = let w = c .before .before .before .loop .inv in let l = w .put .long in let i = patch-in w (c .before .before .before .before .before .before .pre .1 .1 .0) (c .before .before .loop-test .taken) (c .before .next-met .ensures) in search needs
+add-write-rows : tie.Need-add-write-rows Inv-loop μ-loop
+add-write-rows c = let i = patch-in (c .before .before .loop .inv) (c .before .before .before .before .before .pre .1 .1 .0) (c .before .loop-test .taken) (c .next-met .ensures) in search needs
+
+write-rows-requires : tie.Need-write-rows-requires Inv-loop μ-loop
+write-rows-requires c κs = let w = c .before .before .before .loop .inv in let l = w .put .long in let i = patch-in w (c .before .before .before .before .before .before .pre .1 .1 .0) (c .before .before .loop-test .taken) (c .before .next-met .ensures) in search needs
 
 add-id : tie.Need-add-id Inv-loop μ-loop
 add-id c = let i = patch-in (c .before .before .before .before .before .before .loop .inv) (c .before .before .before .before .before .before .before .before .before .pre .1 .1 .0) (c .before .before .before .before .before .loop-test .taken) (c .before .before .before .before .next-met .ensures) in search needs
@@ -32,7 +36,7 @@ loop-less : tie.Need-loop-less Inv-loop μ-loop
 loop-less c = search needs
 
 loop-again : tie.Need-loop-again Inv-loop μ-loop
-loop-again c = patch-more (c .before .before .before .before .before .before .loop .inv) (c .before .before .before .before .before .before .before .before .before .pre .1 .1 .0) (c .before .before .before .before .before .loop-test .taken) (c .before .before .before .before .next-met .ensures) (c .before .before .write-row .ensures) (c .before .before .write-row .kept .1 .1 .1 .1 .0)
+loop-again c = patch-more (c .before .before .before .before .before .before .loop .inv) (c .before .before .before .before .before .before .before .before .before .pre .1 .1 .0) (c .before .before .before .before .before .loop-test .taken) (c .before .before .before .before .next-met .ensures) (c .before .before .write-rows .ensures ∙ put-one _ _ _) (c .before .before .write-rows .kept .1 .1 .1 .1 .1 .0)
 
 same-length : tie.Need-same-length Inv-loop μ-loop
 same-length c = c .before .loop .inv .put .long
@@ -48,7 +52,8 @@ patch-met-spec =
     μ-loop
     loop-holds
     next-met-requires
-    write-row-requires
+    add-write-rows
+    write-rows-requires
     add-id
     sub-left
     loop-less

@@ -1,7 +1,8 @@
-use mathlib.Core.Path.{ap}
+use mathlib.Core.Path.{ap, _∙_}
 use native.Mathlib.Omega.{arith}
 use Rattle.hbc_header.specs.Answer.{refuses}
 use Rattle.hbc_function.specs.Laws.{read-long, read-past, read-small, read-done, read-stopped}
+use Rattle.hbc_function.specs.Passes.{put-whole}
 use borrow.Author.Needs.{needs}
 use Rattle.hbc_function.proofs.read_functions.Statement.{statement}
 use Rattle.hbc_function.proofs.read_functions.Tie as tie
@@ -33,8 +34,8 @@ check-all-requires c κs = search needs
 enum-told : tie.Need-enum-told
 enum-told c = search needs
 
-write-all-requires : tie.Need-write-all-requires
-write-all-requires c κs = search needs
+write-rows-requires : tie.Need-write-rows-requires
+write-rows-requires c κs = search needs
 
 enum-told-2 : tie.Need-enum-told-2
 enum-told-2 c = search needs
@@ -43,7 +44,7 @@ same-length : tie.Need-same-length
 same-length c = search needs
 
 returns-4 : tie.Need-returns-4
-returns-4 c = read-done (omega arith) (omega arith) (omega arith) (c .before .before .before .before .before .before .check-all .ensures) (c .before .before .before .before .enum-told .given .1) (c .before .before .write-all .ensures)
+returns-4 c = read-done (omega arith) (omega arith) (omega arith) (c .before .before .before .before .before .before .check-all .ensures) (c .before .before .before .before .enum-told .given .1) (c .before .before .write-rows .ensures ∙ put-whole _ _ _)
 
 returns-5 : tie.Need-returns-5
 returns-5 c = read-stopped (omega arith) (omega arith) (omega arith) (c .before .before .check-all .ensures) (c .enum-told2 .given .1)
@@ -61,7 +62,7 @@ read-functions-spec =
     returns-3
     check-all-requires
     enum-told
-    write-all-requires
+    write-rows-requires
     enum-told-2
     same-length
     returns-4
