@@ -1,4 +1,4 @@
-//! Each difference that docs/parts/debug-DIFFERENCES.md lists, on its smallest input: what the Rust says of it is
+//! Each difference that docs/DIFFERENCES.md lists, on its smallest input: what the Rust says of it is
 //! looked at here; what we say is compared as everywhere, and looked at too.
 
 use published::debug::{try_parse_debug_info, DebugInfo};
