@@ -88,14 +88,13 @@ fn again(
     false
 }
 
-// Reads `count` values run by run and writes nothing. A run takes one test, however long it is.
+// Reads `count` values run by run and writes nothing. A run takes one test, however long it is; tag byte, length and width of the last one are kept.
 fn check(s: &[u8], from: usize, count: usize) -> Series
     requires { ⌜ (length (now s) ≤ limit) × (from ≤ length (now s)) × (count < 2 ^ 32) ⌝ }
     ensures { λ r. ⌜ r ≡ usedOf from (after count (now (s .entry)) (cursorAt from)) ⌝ }
 {
     let mut at = from;
     let mut done: usize = 0;
-    // the last run: its tag byte, length and width
     let mut last: u64 = 256;
     let mut size: usize = 0;
     let mut wide: usize = 0;
@@ -285,7 +284,7 @@ fn write(s: &[u8], from: usize, count: usize, kinds: &mut [u32], payloads: &mut 
             done += n;
         } else if again(b, last, size, wide, count - done, s.len() - at, 8) {
             fill_short(s, at + 1, wide, kind(tag), kinds, payloads, done, size);
-            at += 1 + size * wide;
+            at += 1 + (size * wide);
             done += size;
         } else {
             let first = at + 1 + (bits(b, 7, 1) as usize);

@@ -1,6 +1,6 @@
 // An object's series, after buffer.rs: key and value buffers that the caller lends, each with its own lifetime, one of them named by a yes or no.
 ghost use mathlib.Core.Path.{_≡_};
-ghost use Rattle.hbc_buffer_object.specs.Object.{named, bytesOf, startOf, objectOf, ReadObject};
+ghost use Rattle.hbc_buffer_object.specs.Object.{named, bytesOf, objectPart, startOf, objectOf, ReadObject};
 use hbc_buffer::Series;
 use hbc_buffer::read_series;
 use hbc_io::Refusal;
@@ -31,18 +31,11 @@ fn part(s: &[u8], start: usize, len: usize) -> &[u8]
     hbc_io::part(s, Span { start, len })
 }
 
-// The bytes of a series that was read, as a part of the buffer that was named, at a lifetime that both buffers outlive: `yes`, `start` and
-// `len` are those of the answer.
-pub fn object_part<'k: 'r, 'v: 'r, 'r>(
-    keys: &'k [u8],
-    values: &'v [u8],
-    yes: bool,
-    start: usize,
-    len: usize,
-) -> &'r [u8]
-    ensures { λ r. ⌜ now r ≡ bytesOf (named yes (now (keys .entry)) (now (values .entry))) start len ⌝ }
+// The bytes of a series that was read, as a part of the buffer that it was read from, at a lifetime that both buffers outlive.
+pub fn object_part<'k: 'r, 'v: 'r, 'r>(keys: &'k [u8], values: &'v [u8], o: Object) -> &'r [u8]
+    ensures { λ r. ⌜ now r ≡ objectPart (now (keys .entry)) (now (values .entry)) o ⌝ }
 {
-    part(choose(keys, values, yes), start, len)
+    part(choose(keys, values, o.yes), o.start, o.len)
 }
 
 fn start_of(offset: u32, count: u32) -> usize

@@ -1,2 +1,4 @@
 pub mod Unique
 pub mod Refused
+pub mod Fuel
+pub mod Within

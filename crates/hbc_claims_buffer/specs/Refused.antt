@@ -1,4 +1,4 @@
--- What a refusal leaves, and what count 0 hands back.
+-- What a refusal leaves, what count 0 hands back, and what an accepted object does.
 use Prim.Native.Nat.{ℕ, _+_, _-_, _≤_}
 use mathlib.Core.Path.{_≡_, refl, ap, sym, _∙_}
 use mathlib.Core.List.{List, []}
@@ -11,8 +11,10 @@ use Rattle.hbc_io.specs.declared.Refusal.{Refusal}
 use Rattle.hbc_io.specs.Outcome.{cursorAt}
 use Rattle.hbc_buffer.specs.declared.Series.{Series}
 use Rattle.hbc_buffer.specs.declared.Series.the-variants as series
-use Rattle.hbc_buffer.specs.Series.{kindAt, payloadAt, tableAfter, ReadSeries}
-use Rattle.hbc_buffer_object.specs.Object.{named, bytesOf, startOf, objectOf, objectPart}
+use Rattle.hbc_buffer.specs.Series.{kindAt, payloadAt, tableAfter, seriesAnswer, ReadSeries}
+use Rattle.hbc_buffer_object.specs.declared.Object.{Object}
+use Rattle.hbc_buffer_object.specs.Object.{named, bytesOf, startOf, objectOf, objectPart, ReadObject}
+use Rattle.hbc_claims_buffer.specs.Within.{used-within}
 
 -- a refused series leaves both tables as they were
 pub refused-leaves : {s : List ℕ} {offset count : ℕ} {ks ps ks′ ps′ : List ℕ} {r : Refusal} → ReadSeries s offset count ks ps (series.Refused r) ks′ ps′ → (ks′ ≡ ks) × (ps′ ≡ ps)
@@ -42,7 +44,9 @@ none-empty keys values b offset = empty (named b keys values)
 taken : (s : List ℕ) (offset count n : ℕ) → (count ≡ 0 → ⊥) → offset + n ≤ length s → bytesOf s (startOf offset count) n ≡ take n (drop offset s)
 taken s offset count n some h = rw (ne-eqb _ _ some, le-ltb (length s) offset (omega arith), le-ltb (length s - offset) n (omega arith))
 
--- what was used is the part from the offset on, of the buffer that was named, wherever it is there
-pub part-is : (keys values : List ℕ) (b : Bool) (offset count n : ℕ) → (count ≡ 0 → ⊥) → offset + n ≤ length (named b keys values)
-    → objectPart keys values (objectOf b offset count (series.Used n)) ≡ take n (drop offset (named b keys values))
-part-is keys values b offset count n some h = taken (named b keys values) offset count n some h
+-- accepted: the part is the bytes from the offset on that the series used, of the buffer that was named
+pub part-is : {keys values : List ℕ} {b : Bool} {offset count : ℕ} {ks ps ks′ ps′ : List ℕ} {r : Object} (n : ℕ) → ReadObject keys values b offset count ks ps r ks′ ps′
+    → (count ≡ 0 → ⊥) → seriesAnswer (named b keys values) offset count (length ks) (length ps) ≡ series.Used n → objectPart keys values r ≡ take n (drop offset (named b keys values))
+part-is {keys} {values} {b} {offset} {count} {ks} {ps} n p some e =
+    ap (objectPart keys values) (p .says ∙ ap (objectOf b offset count) e)
+    ∙ taken (named b keys values) offset count n some (used-within (named b keys values) offset count (length ks) (length ps) n some e)
