@@ -3,7 +3,8 @@ use Prim.Native.Nat.{ℕ}
 use mathlib.Core.Path.{_≡_}
 use mathlib.Core.List.{List}
 use denote.Ref.{RefT, now}
-use Rattle.hbc_io.specs.Outcome.{Outcome, got, refused, cursorAt}
+use Rattle.hbc_io.specs.Outcome.{Outcome, got, refused, cursorAt, andThen}
+use Rattle.hbc_io.specs.Plain.{plainAt, seekTo}
 use Rattle.hbc_io.specs.declared.Cursor.{Cursor}
 use Rattle.hbc_reader.specs.declared.ByteReader.{ByteReader}
 
@@ -31,3 +32,7 @@ fresh s = record { «data» = s; «pos» = 0 }
 pub record Reads {A : Type 0} (f : List ℕ → Cursor → Outcome A) (before : ByteReader) (o : Outcome A) (left : ByteReader) : Type 0 where
   pub says : o ≡ f (bytesOf before) (cursorOf before)
   pub leaves : left ≡ movedTo before (after (f (bytesOf before) (cursorOf before)))
+
+-- a reader of these bytes is sought to a place, and reads a u32 there
+abbrev pub soughtU32 : List ℕ → ℕ → Outcome ℕ
+soughtU32 s to = andThen (seekTo s (cursorAt 0) to) (λ _ c. plainAt 4 s c)

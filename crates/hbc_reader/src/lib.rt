@@ -1,11 +1,11 @@
 // A reader that keeps its bytes with a position, after io.rs's ByteReader: thin calls over the cursor by value.
 ghost use mathlib.Core.Path.{_≡_};
-ghost use Rattle.hbc_io.specs.Outcome.{left, cursorAt, valued};
+ghost use Rattle.hbc_io.specs.Outcome.{left, cursorAt, valued, andThen};
 ghost use Rattle.hbc_io.specs.Plain.{plainAt, seekTo, bytesAt};
 ghost use Rattle.hbc_io.specs.Answers.{ofU32, ofMoved, ofSpan};
 ghost use Rattle.hbc_io_leb.specs.Leb.{lebBytes};
 ghost use Rattle.hbc_io_leb.specs.Answers.{ulebOf, ofUleb};
-ghost use Rattle.hbc_reader.specs.Reader.{bytesOf, cursorOf, after, fresh, Reads};
+ghost use Rattle.hbc_reader.specs.Reader.{bytesOf, cursorOf, after, fresh, Reads, soughtU32};
 use hbc_io::Cursor;
 use hbc_io::Moved;
 use hbc_io::ReadSpan;
@@ -134,4 +134,24 @@ impl<'a> ByteReader<'a> {
         self.pos = after_span(answer);
         answer
     }
+}
+
+// The seek's refusal if it was refused, else what was read after it.
+fn joined(m: Moved, r: ReadU32) -> ReadU32
+    ensures { λ q. ⌜ ofU32 q ≡ andThen (ofMoved m) (λ _ _. ofU32 r) ⌝ }
+{
+    match m {
+        Moved::To(_) => r,
+        Moved::Refused(why, stays) => ReadU32::Refused(why, stays),
+    }
+}
+
+// The u32 at a place, through a reader: a caller of this one needs no reader of its own.
+pub fn read_u32_at(s: &[u8], pos: usize) -> ReadU32
+    ensures { λ r. ⌜ ofU32 r ≡ soughtU32 (now (s .entry)) pos ⌝ }
+{
+    let mut reader = ByteReader::new(s);
+    let moved = reader.seek(pos);
+    let word = reader.read_u32();
+    joined(moved, word)
 }
