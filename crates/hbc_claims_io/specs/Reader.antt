@@ -15,11 +15,12 @@ use contract.Monad.{Fun, fact}
 use denote.Ref.{RefT, now}
 use denote.Triple.Both.{Both}
 use Rattle.hbc_io.specs.Outcome.{left, valued}
-use Rattle.hbc_io.specs.Plain.{plainAt, seekTo, bytesAt}
+use Rattle.hbc_io.specs.Plain.{plainAt, seekTo, bytesAt, partOf}
 use Rattle.hbc_io.specs.Answers.{ofU32, ofMoved, ofSpan}
 use Rattle.hbc_io.specs.declared.Moved.{Moved}
 use Rattle.hbc_io.specs.declared.ReadU32.{ReadU32}
 use Rattle.hbc_io.specs.declared.ReadSpan.{ReadSpan}
+use Rattle.hbc_io.specs.declared.Span.{Span}
 use Rattle.hbc_io_leb.specs.Leb.{lebBytes}
 use Rattle.hbc_io_leb.specs.Answers.{ulebOf, ofUleb}
 use Rattle.hbc_io_leb.specs.declared.ReadUleb.{ReadUleb}
@@ -32,6 +33,7 @@ use Rattle.hbc_reader.proofs.ByteReader.seek as of-seek
 use Rattle.hbc_reader.proofs.ByteReader.read_u32 as of-read-u32
 use Rattle.hbc_reader.proofs.ByteReader.read_uleb128 as of-read-uleb128
 use Rattle.hbc_reader.proofs.ByteReader.read_bytes as of-read-bytes
+use Rattle.hbc_reader.proofs.ByteReader.part as of-part
 use Rattle.hbc_reader.proofs.read_u32_at.Reads as of-read-u32-at
 use Rattle.hbc_io.proofs.Alone.{oneU32, oneSpan, oneMoved}
 use Rattle.hbc_io_leb.proofs.Alone.{oneUleb}
@@ -61,6 +63,9 @@ Uleb128 d r e = Reads (λ s c. valued ulebOf (lebBytes s c)) d (ofUleb r) e
 abbrev pub Bytes : ℕ → ByteReader → ReadSpan → ByteReader → Type 0
 Bytes n d r e = Reads (bytesAt n) d (ofSpan r) e
 
+abbrev pub Part : Span → ByteReader → RefT (List ℕ) → Type 0
+Part p d r = now r ≡ partOf (bytesOf d) p
+
 -- ---- each clause is its fact
 
 module _ {M : Type 1} (𝓤 : URA M) (H : Heap 𝓤) (A : Atoms 𝓤) (mem : Memory → SProp 𝓤) (run : Routine → Fun 𝓤) where
@@ -88,6 +93,9 @@ module _ {M : Type 1} (𝓤 : URA M) (H : Heap 𝓤) (A : Atoms 𝓤) (mem : Mem
       → of-read-bytes.ensures-1 𝓤 H κs A mem run a n b t r ≡ fact 𝓤 (Bytes n (now (b .entry)) r (now (b .exit)))
   read-bytes-clause κs a n b t r = refl
 
+  pub part-clause : (κs : Lfts 2) (a : RefT ByteReader) (p : Span) (b : Both (RefT ByteReader) (RefT ByteReader)) (t : Both Span Span) (r : RefT (List ℕ)) → of-part.ensures-1 𝓤 H κs A mem run a p b t r ≡ fact 𝓤 (Part p (now (b .entry)) r)
+  part-clause κs a p b t r = refl
+
 -- ---- each fact leaves one outcome
 
 pub data Call : Type 0 where
@@ -98,6 +106,7 @@ pub data Call : Type 0 where
   read_u32 : Call
   read_uleb128 : Call
   read_bytes : Call
+  part : Call
   read_u32_at : Call
 
 -- one answer and one reader left
@@ -112,6 +121,7 @@ Determined seek = (to : ℕ) → OneLeft (Seek to)
 Determined read_u32 = OneLeft U32
 Determined read_uleb128 = OneLeft Uleb128
 Determined read_bytes = (n : ℕ) → OneLeft (Bytes n)
+Determined part = (p : Span) (d : ByteReader) (r q : RefT (List ℕ)) → Part p d r → Part p d q → now r ≡ now q
 Determined read_u32_at = One of-read-u32-at.Learnt
 
 pub determined : (c : Call) → Determined c
@@ -122,4 +132,5 @@ determined seek = λ to d r q e f g h. (oneMoved r q (same (g .says) (h .says)),
 determined read_u32 = λ d r q e f g h. (oneU32 r q (same (g .says) (h .says)), same (g .leaves) (h .leaves))
 determined read_uleb128 = λ d r q e f g h. (oneUleb r q (same (g .says) (h .says)), same (g .leaves) (h .leaves))
 determined read_bytes = λ n d r q e f g h. (oneSpan r q (same (g .says) (h .says)), same (g .leaves) (h .leaves))
+determined part = λ p d r q. same
 determined read_u32_at = λ k a r q s u e f. oneU32 r q (same e f)

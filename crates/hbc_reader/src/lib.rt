@@ -1,7 +1,7 @@
 // A reader that keeps its bytes with a position, after io.rs's ByteReader: thin calls over the cursor by value.
 ghost use mathlib.Core.Path.{_≡_};
 ghost use Rattle.hbc_io.specs.Outcome.{left, cursorAt, valued, andThen};
-ghost use Rattle.hbc_io.specs.Plain.{plainAt, seekTo, bytesAt};
+ghost use Rattle.hbc_io.specs.Plain.{plainAt, seekTo, bytesAt, partOf};
 ghost use Rattle.hbc_io.specs.Answers.{ofU32, ofMoved, ofSpan};
 ghost use Rattle.hbc_io_leb.specs.Leb.{lebBytes};
 ghost use Rattle.hbc_io_leb.specs.Answers.{ulebOf, ofUleb};
@@ -10,6 +10,7 @@ use hbc_io::Cursor;
 use hbc_io::Moved;
 use hbc_io::ReadSpan;
 use hbc_io::ReadU32;
+use hbc_io::Span;
 use hbc_io_leb::ReadUleb;
 
 pub struct ByteReader<'a> {
@@ -133,6 +134,13 @@ impl<'a> ByteReader<'a> {
         let answer = span_at(self.data, self.pos, len);
         self.pos = after_span(answer);
         answer
+    }
+
+    // The bytes that a span names, as a part of the lent ones, empty where it leaves them.
+    pub fn part(&self, span: Span) -> &'a [u8]
+        ensures { λ r. ⌜ now r ≡ partOf (bytesOf (now (self .entry))) span ⌝ }
+    {
+        hbc_io::part(self.data, span)
     }
 }
 
