@@ -35,7 +35,7 @@ fn main() -> ExitCode {
 fn main() -> ExitCode {
     println!(
         "benchmark skipped: it needs both {} and the published Rust in {}",
-        hbc_sys::ARCHIVE,
+        bisquepond::sys::ARCHIVE,
         published::FOLDER
     );
     ExitCode::SUCCESS

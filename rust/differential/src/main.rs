@@ -73,7 +73,7 @@ fn main() -> ExitCode {
 fn main() -> ExitCode {
     eprintln!(
         "comparison not run: no {} (make it with `rt staticlib hbc_c`, or name its folder in HBC_STATICLIB)",
-        hbc_sys::ARCHIVE
+        bisquepond::sys::ARCHIVE
     );
     ExitCode::from(2)
 }
