@@ -72,7 +72,7 @@ fn main() -> ExitCode {
 #[cfg(all(published, not(archive)))]
 fn main() -> ExitCode {
     eprintln!(
-        "comparison not run: no {} (make it with `rt staticlib hbc_c`, or name its folder in HBC_STATICLIB)",
+        "comparison not run: no {} (make it with `rt staticlib hbc_c`, or name it in HBC_C_ARCHIVE)",
         bisquepond::sys::ARCHIVE
     );
     ExitCode::from(2)
