@@ -18,13 +18,11 @@ fn main() {
 fn link(archive: &Path) {
     let (folder, name) = (archive.parent().unwrap(), archive.file_name().unwrap());
     println!("cargo::rerun-if-changed={}", archive.display());
-    println!("cargo::rustc-env=ARCHIVE={}", archive.display());
     println!("cargo::rustc-link-search=native={}", folder.display());
     println!(
         "cargo::rustc-link-lib=static:+verbatim={}",
         name.to_string_lossy()
     );
-    println!("cargo::metadata=found=yes");
 }
 
 /// The archive that HBC_C_ARCHIVE names, from the repository's root; else the one that `rt staticlib hbc_c` writes,

@@ -3,9 +3,6 @@
 
 #![allow(missing_docs, unsafe_code)]
 
-/// The archive that is linked.
-pub const ARCHIVE: &str = env!("ARCHIVE");
-
 /// The refusal number of an answer, 0 if accepted: `HBC_NUMBER`.
 ///
 /// ```
