@@ -1,6 +1,6 @@
 //! Decoded strings, and one string's bytes.
 
-use hbc_sys::*;
+use bisquepond::sys::*;
 use published::error::{Error, Result as Published};
 use published::file::parser::table::{decode_string_table, parse_string_kinds};
 use published::file::structure::{StringKindEntry, StringTableEntry};
@@ -106,7 +106,7 @@ impl Case<'_> {
         let mut rows = Lent::new(self.lent);
         let code = self.call(&mut rows);
         let same = |number, place, words: &[u32]| {
-            let given = (hbc_sys::number(code), hbc_sys::place(code));
+            let given = (bisquepond::sys::number(code), bisquepond::sys::place(code));
             if given != (number, place) {
                 return Err(self.difference(number, place, said_rows(given.0, given.1)));
             }
@@ -124,7 +124,11 @@ impl Case<'_> {
             Ok(texts) => texts,
             Err(error) => {
                 missing(error);
-                return same(8, self.first_missing(&runs, hbc_sys::place(code)), &[]);
+                return same(
+                    8,
+                    self.first_missing(&runs, bisquepond::sys::place(code)),
+                    &[],
+                );
             }
         };
         let mut words = Vec::with_capacity(texts.len() * ROW);

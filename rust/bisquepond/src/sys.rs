@@ -1,20 +1,28 @@
-//! The C calls of libhbc_c.a. include/hbc.h says what each takes and answers.
+//! The C calls of libhbc_c.a, as they are. include/hbc.h says what each takes and answers, and what its caller owes it;
+//! the other modules are safe calls over these.
 
-/// Where the archive was looked for.
-pub const ARCHIVE: &str = env!("ARCHIVE");
+#![allow(missing_docs, unsafe_code)]
 
 /// The refusal number of an answer, 0 if accepted: `HBC_NUMBER`.
+///
+/// ```
+/// assert_eq!(bisquepond::sys::number(3 << 32 | 7), 3);
+/// ```
 pub const fn number(code: u64) -> u32 {
     (code >> 32) as u32
 }
 
 /// The place of an answer: `HBC_PLACE`.
+///
+/// ```
+/// assert_eq!(bisquepond::sys::place(3 << 32 | 7), 7);
+/// ```
 pub const fn place(code: u64) -> u32 {
     code as u32
 }
 
 #[rustfmt::skip]
-extern "C" {
+unsafe extern "C" {
     pub fn hbc_bits(word: u64, first: u32, width: u32) -> u64;
 
     pub fn hbc_remaining(s: *const u8, s_len: usize, at: usize) -> usize;

@@ -25,9 +25,9 @@ fn shape(parameters: Vec<String>, answer: Option<&str>) -> String {
     format!("({}){answer}", parameters.join(", "))
 }
 
-/// The declarations of src/lib.rs, as they stand.
+/// The declarations of src/sys.rs, as they stand.
 fn declared() -> Calls {
-    let text = fs::read_to_string(repository().join("rust/hbc-sys/src/lib.rs")).unwrap();
+    let text = fs::read_to_string(repository().join("rust/bisquepond/src/sys.rs")).unwrap();
     let mut calls = Calls::new();
     for found in text.split("pub fn hbc_").skip(1) {
         let (name, rest) = found.split_once('(').unwrap();
