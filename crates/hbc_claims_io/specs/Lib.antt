@@ -1,2 +1,3 @@
 pub mod Leb128
+pub mod Refused
 pub mod Unique
