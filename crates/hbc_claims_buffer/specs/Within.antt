@@ -1,10 +1,10 @@
 -- The bytes that an accepted series used are there: it ends at or behind its start and not past the buffer's end.
-use Prim.Native.Nat.{ℕ, zero, suc, _+_, _-_, _≤_, _<_}
+use Prim.Native.Nat.{ℕ, zero, suc, _+_, _-_, _^_, _≤_, _<_}
 use mathlib.Core.Path.{_≡_, refl, sym, ap, _∙_, subst}
 use mathlib.Core.List.{List}
 use mathlib.Core.Bool.{Bool, true, false, cond}
 use native.Mathlib.Omega.{arith}
-use borrow.Author.Tests.{ltb-false, leb-false, ne-eqb}
+use borrow.Author.Tests.{ltb-false, leb-false, eqb-false, ne-eqb}
 use lib.Dec.{ltb, leb, eqb}
 use lib.ListN.{length}
 use Rattle.hbc_io.specs.Outcome.{Outcome, got, refused, valued, cursorAt, refusal, limit}
@@ -96,3 +96,22 @@ used-within s offset count kinds payloads n some e =
     let d = past not-used (ltb kinds count) (c .1) in
     let f = past not-used (ltb payloads count) (d .1) in
     used-reach s offset n (after count s (cursorAt offset)) (f .1) (λ u m. after-reach count s (cursorAt offset) u m (omega (arith, leb-false (length s) offset (c .0))))
+
+used-short : (s : List ℕ) (offset count kinds payloads n : ℕ) → seriesAnswer s offset count kinds payloads ≡ series.Used n → length s ≤ limit
+unfolding seriesAnswer
+used-short s offset count kinds payloads n e = ltb-false _ _ (past not-used (ltb limit (length s)) e .0)
+
+used-none : (s : List ℕ) (offset count kinds payloads n : ℕ) → eqb count 0 ≡ true → seriesAnswer s offset count kinds payloads ≡ series.Used n → 0 ≡ n
+unfolding seriesAnswer
+used-none s offset count kinds payloads n q e =
+    let a = past not-used (ltb limit (length s)) e .1 in
+    let b : series.Used 0 ≡ series.Used n = rw q at a in
+    cc
+
+-- and so many bytes are never as many as 2^32
+pub used-small : (s : List ℕ) (offset count kinds payloads n : ℕ) → seriesAnswer s offset count kinds payloads ≡ series.Used n → n < 2 ^ 32
+used-small s offset count kinds payloads n e = by-count (eqb count 0) refl
+  where
+    by-count : (b : Bool) → eqb count 0 ≡ b → n < 2 ^ 32
+    by-count true q = omega (arith, used-none s offset count kinds payloads n q e)
+    by-count false q = omega (arith, used-short s offset count kinds payloads n e, used-within s offset count kinds payloads n (eqb-false count 0 q) e)

@@ -32,7 +32,7 @@ either : (b : Bool) (k : Counts) (r q : Refusal) (t u : Tables) → cond b (answ
 either true k r q t u e = let z : _≡_ {A = ℕ} 0 1 = cc in absurd (omega arith)
 either false k r q t u e = refl
 
-in-parts : (f : FindParts) (file : List ℕ) (t : Tables) (r : Refusal) → answerIn f file t ≡ answer.Refused r → tablesIn f file t ≡ t
+pub in-parts : (f : FindParts) (file : List ℕ) (t : Tables) (r : Refusal) → answerIn f file t ≡ answer.Refused r → tablesIn f file t ≡ t
 in-parts (find.Refused k) file t r e = refl
 in-parts (find.Found p) file t r e =
     let st = bytesOf file (p .strings) in

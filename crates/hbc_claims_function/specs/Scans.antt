@@ -53,6 +53,16 @@ unfoldable pub countOf : (ℕ → Bool) → ℕ → ℕ
 countOf chosen zero = 0
 countOf chosen (suc n) = cond (chosen n) (countOf chosen n + 1) (countOf chosen n)
 
+count-step : (b : Bool) (m n : ℕ) → m ≤ n → cond b (m + 1) m ≤ suc n
+count-step true m n h = omega arith
+count-step false m n h = omega arith
+
+-- which is at most n
+pub count-le : (chosen : ℕ → Bool) (n : ℕ) → countOf chosen n ≤ n
+unfolding countOf
+count-le chosen zero = omega arith
+count-le chosen (suc n) = count-step (chosen n) (countOf chosen n) n (count-le chosen n)
+
 module _ (chosen : ℕ → Bool) (f : ℕ → Answer Record) where
   scan-before : (n k : ℕ) → scan chosen f (suc n) ≡ gives k → (m : ℕ) × (scan chosen f n ≡ gives m)
   unfolding scan

@@ -51,6 +51,9 @@ module _ (s : List ℕ) (c : Cursor) {k : Refusal} {n : Cursor} where
       at-start (stays c) _ refl refl (valued-refused f (plainAt w s c) k n (sym e))
       (λ p. either (ltb (left s c) w) p (by-number (stays c) 3 c refl) (λ q. absurd (not-both refl q)))
 
+  pub number-left : (w : ℕ) → refused k n ≡ plainAt w s c → n ≡ stays c k
+  number-left w e = plain-left w (λ v. v) (ap (valued (λ (v : ℕ). v)) e)
+
   -- a span
   pub bytes-left : (len : ℕ) → refused k n ≡ bytesAt len s c → n ≡ stays c k
   unfolding bytesAt

@@ -58,9 +58,9 @@ module _ (width : ℕ) (s : List ℕ) (c : Cursor) (count : ℕ) (before after :
   refused-table k stays v = table-refused v refl .1
 
 -- and the cursor
-refused-at : (bytes : ℕ) (s : List ℕ) (c : Cursor) (n : ℕ) (before : List ℕ) (r : Refusal) (stays : Cursor) → wordsAt bytes s c n before ≡ refused r stays → stays ≡ c
+pub words-left : (bytes : ℕ) (s : List ℕ) (c : Cursor) (n : ℕ) (before : List ℕ) (r : Refusal) (stays : Cursor) → wordsAt bytes s c n before ≡ refused r stays → stays ≡ c
 unfolding wordsAt
-refused-at bytes s c n before r stays e =
+words-left bytes s c n before r stays e =
     either (ltb limit (length s)) e (λ p. cc) (λ e.
     either (ltb (length s) (c .at)) e (λ p. cc) (λ e.
     either (ltb (length before) n) e (λ p. cc) (λ e.
@@ -69,4 +69,4 @@ refused-at bytes s c n before r stays e =
 pub refused-cursor : (width : ℕ) (s : List ℕ) (c : Cursor) (count : ℕ) (before after : List ℕ) (k : Refusal) (stays : Cursor)
     → ReadTable width s c count before (Refused k stays) after → stays ≡ c
 refused-cursor width s c count before after k stays v =
-    refused-at (4 * width) s c (width * count) before k stays (table-refused v refl .0)
+    words-left (4 * width) s c (width * count) before k stays (table-refused v refl .0)
