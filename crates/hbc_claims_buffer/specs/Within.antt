@@ -7,7 +7,7 @@ use native.Mathlib.Omega.{arith}
 use borrow.Author.Tests.{ltb-false, leb-false, eqb-false, ne-eqb}
 use lib.Dec.{ltb, leb, eqb}
 use lib.ListN.{length}
-use Rattle.hbc_io.specs.Outcome.{Outcome, got, refused, valued, cursorAt, refusal, limit}
+use Rattle.hbc_io.specs.Outcome.{Outcome, got, refused, valued, cursorAt, limit}
 use Rattle.hbc_io.specs.Plain.{plainAt}
 use Rattle.hbc_io.specs.declared.Cursor.{Cursor}
 use Rattle.hbc_io.specs.declared.Refusal.{Refusal}
@@ -17,7 +17,7 @@ use Rattle.hbc_buffer_literal.specs.Literal.{widthOf}
 use Rattle.hbc_buffer.specs.declared.Series.{Series}
 use Rattle.hbc_buffer.specs.declared.Series.the-variants as series
 use Rattle.hbc_buffer.specs.Series.{Run, runOf, tagAt, headAt, runAt, step, placed, after, usedOf, seriesAnswer}
-use Rattle.hbc_buffer.proofs.Tags.{head-skip, head-here, tag-on}
+use Rattle.hbc_buffer.proofs.Tags.{tag-on}
 use Rattle.hbc_claims_law.specs.Tests.{past}
 
 -- from c to n, and not past the end

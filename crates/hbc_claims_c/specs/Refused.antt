@@ -11,7 +11,6 @@ use lib.Dec.{ltb, eqb}
 use borrow.Author.Tests.{ltb-false}
 use Rattle.hbc_io.specs.Outcome.{Outcome, got, refused, cursorAt}
 use Rattle.hbc_io.specs.declared.Cursor.{Cursor}
-use Rattle.hbc_io.specs.declared.Refusal.{Refusal}
 use Rattle.hbc_rows.specs.Rows.{rows}
 use Rattle.hbc_header.specs.declared.Layout.{Layout}
 use Rattle.hbc_header.specs.declared.Layout.the-variants as lay
@@ -20,16 +19,15 @@ use Rattle.hbc_header.specs.Header.{functionAt}
 use Rattle.hbc_header_ground.specs.Meets.{meets}
 use Rattle.hbc_function.specs.Table.{written, readAnswer, readTable}
 use Rattle.hbc_function.specs.Refresh.{refreshAnswer, refreshTable}
-use Rattle.hbc_table.specs.Table.{wordsAt, tableAt}
+use Rattle.hbc_table.specs.Table.{tableAt}
 use Rattle.hbc_table_strings.specs.declared.Decoded.{Decoded}
 use Rattle.hbc_table_strings.specs.declared.Decoded.the-variants as decoded
-use Rattle.hbc_table_strings.specs.Strings.{lesser, decodeAnswer, leftBy, DecodeStrings}
+use Rattle.hbc_table_strings.specs.Strings.{lesser, decodeAnswer, leftBy}
 use Rattle.hbc_buffer_literal.specs.declared.Literal.{Literal}
 use Rattle.hbc_buffer_literal.specs.Literal.{literalAt}
 use Rattle.hbc_buffer.specs.declared.Series.{Series}
 use Rattle.hbc_buffer.specs.declared.Series.the-variants as series
 use Rattle.hbc_buffer.specs.Series.{seriesAnswer, tableAfter}
-use Rattle.hbc_buffer_object.specs.declared.Object.{Object}
 use Rattle.hbc_buffer_object.specs.Object.{named, objectOf}
 use Rattle.hbc_parsing_handlers.specs.Handlers.{handlersAnswer, leftBy as hleft}
 use Rattle.hbc_parsing_sections.specs.declared.Sections.{Sections}

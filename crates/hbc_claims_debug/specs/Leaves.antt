@@ -23,7 +23,7 @@ use Rattle.hbc_debug_strings.specs.Strings.{stringsOf, stringWords, stringTable
 use Rattle.hbc_debug_scopes.specs.Scopes.{scopesOf, scopeWords, nameWords}
 use Rattle.hbc_debug_callees.specs.Callees.{calleesOf, calleeWords}
 use Rattle.hbc_debug_parts.specs.declared.FindParts.the-variants as find
-use Rattle.hbc_debug.specs.Debug.{Tables, tables, countsOf, fits, filled, answerIn, tablesIn, ReadSection}
+use Rattle.hbc_debug.specs.Debug.{Tables, countsOf, fits, filled, answerIn, tablesIn, ReadSection}
 use Rattle.hbc_debug.specs.declared.Counts.{Counts}
 use Rattle.hbc_debug.specs.declared.ReadDebug.{ReadDebug}
 use Rattle.hbc_debug.specs.declared.ReadDebug.the-variants as answer

@@ -10,16 +10,14 @@ use Rattle.hbc_io.specs.Outcome.{limit}
 use Rattle.hbc_io.specs.declared.Refusal.{Refusal}
 use Rattle.hbc_header.specs.declared.Layout.{Layout}
 use Rattle.hbc_header.specs.declared.Record.{Record}
-use Rattle.hbc_header.specs.declared.Reading.{Reading}
 use Rattle.hbc_header.specs.declared.Reading.the-variants as reading
-use Rattle.hbc_header.specs.Answer.{Answer, gives, refuses, asked, ofReading}
+use Rattle.hbc_header.specs.Answer.{Answer, gives, refuses, asked}
 use Rattle.hbc_header.specs.Header.{functionAt}
 use Rattle.hbc_header.specs.Row.{width, rowOf, rowInto}
 use Rattle.hbc_header_ground.specs.Meets.{meets}
-use Rattle.hbc_function.specs.declared.Refreshed.{Refreshed}
 use Rattle.hbc_function.specs.declared.Refreshed.the-variants as refreshed
 use Rattle.hbc_function.specs.Table.{scan, putRows, all, written, readAnswer, readTable, ReadFunctions}
-use Rattle.hbc_function.specs.Refresh.{ofRefreshed, held, refreshAnswer, refreshTable, RefreshFunctions}
+use Rattle.hbc_function.specs.Refresh.{held, refreshAnswer, refreshTable, RefreshFunctions}
 use Rattle.hbc_claims_law.specs.Tests.{past}
 use Rattle.hbc_claims_function.specs.Scans.{no-gives}
 

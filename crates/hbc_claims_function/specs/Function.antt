@@ -1,5 +1,5 @@
 -- A function that does not meet the span is the same in two files that are the same outside it; and one that is read has its header in the file.
-use Prim.Native.Nat.{ℕ, _+_, _*_, _/_, _≤_, _<_}
+use Prim.Native.Nat.{ℕ, _+_, _*_, _/_, _≤_}
 use mathlib.Core.Path.{_≡_, refl, ap, sym, _∙_}
 use mathlib.Core.List.{List}
 use mathlib.Core.Bool.{Bool, true, false, cond}
@@ -19,7 +19,7 @@ use Rattle.hbc_header.specs.declared.Ground.{Ground}
 use Rattle.hbc_header.specs.declared.Ground.the-variants as ground
 use Rattle.hbc_header.specs.declared.Where.{Where}
 use Rattle.hbc_header.specs.declared.Where.the-variants as wh
-use Rattle.hbc_header.specs.Answer.{Answer, gives, refuses, asked}
+use Rattle.hbc_header.specs.Answer.{Answer, gives, asked}
 use Rattle.hbc_header.specs.Record.{legacyOf, modernOf, legacyLarge, modernLarge, overflowed, legacyPlace, modernPlace}
 use Rattle.hbc_header.specs.Header.{sizeOf, headerAt, groundBy, legacyGround, modernGround, groundAt, whereOf, legacyWhere, modernWhere, legacyFound, modernFound, legacyAt, modernAt, functionAt}
 use Rattle.hbc_header_ground.specs.Meets.{overlap, groundMeets, meets}

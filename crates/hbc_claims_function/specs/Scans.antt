@@ -12,7 +12,7 @@ use Rattle.hbc_io.specs.declared.Refusal.{Refusal}
 use Rattle.hbc_header.specs.declared.Layout.{Layout}
 use Rattle.hbc_header.specs.declared.Record.{Record}
 use Rattle.hbc_header.specs.Answer.{Answer, gives, refuses, asked}
-use Rattle.hbc_header.specs.Header.{sizeOf, headerAt, functionAt}
+use Rattle.hbc_header.specs.Header.{sizeOf, functionAt}
 use Rattle.hbc_function.specs.Table.{counted, step, scan, all}
 use Rattle.hbc_function.specs.Refresh.{held}
 use Rattle.hbc_function.specs.Laws.{size-pos}

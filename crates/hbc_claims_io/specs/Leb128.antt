@@ -1,6 +1,6 @@
 -- When the answer to a LEB128 number is the number that DWARF 5, section 7.6, has for its bytes: exactly when that fits 64 bits.
 use Prim.Native.Nat.{ℕ, suc, _-_, _*_, _%_, _^_, _≤_, _<_}
-use mathlib.Core.Path.{_≡_, refl, sym, ap, _∙_, subst}
+use mathlib.Core.Path.{_≡_, ap, subst}
 use mathlib.Core.List.{List}
 use native.Mathlib.Omega.{arith}
 use native.Mathlib.Nat.{mod-eq-of-lt, mod-lt}

@@ -7,7 +7,7 @@ use lib.ListN.{length}
 use lib.Dec.{ltb}
 use borrow.Author.Tests.{ltb-false}
 use Rattle.hbc_bits.specs.Bits.{leAt}
-use Rattle.hbc_io.specs.Outcome.{Outcome, got, refused, cursorAt, limit, left}
+use Rattle.hbc_io.specs.Outcome.{got, refused, cursorAt, limit, left}
 use Rattle.hbc_io.specs.declared.Cursor.{Cursor}
 use Rattle.hbc_io.specs.declared.Refusal.{Refusal}
 use Rattle.hbc_io.specs.declared.Moved.the-variants.{To, Refused}
