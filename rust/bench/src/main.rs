@@ -5,6 +5,8 @@ use std::process::ExitCode;
 #[cfg(all(published, archive))]
 mod buffer;
 #[cfg(all(published, archive))]
+mod callees;
+#[cfg(all(published, archive))]
 mod debug;
 #[cfg(all(published, archive))]
 mod function;
@@ -28,6 +30,7 @@ fn main() -> ExitCode {
         ("function", function::rows),
         ("parsing", parsing::rows),
         ("debug", debug::rows),
+        ("callees", callees::rows),
     ])
 }
 

@@ -2,9 +2,9 @@
 
 use std::hint::black_box;
 
-use harness::count;
+use harness::{count, processor_time};
 
-use crate::table::{processor_time, Bench};
+use crate::table::Bench;
 
 /// How much there is to do.
 pub struct Whole {
@@ -22,31 +22,32 @@ pub fn heading(first: &str, second: &str, item: &str) {
     println!("{:<58} {:>21}", "", each);
 }
 
+/// Nanoseconds of one pass of `work`, of as many as make a fiftieth of a second, one at least.
+pub fn timed<T>(work: &mut dyn FnMut() -> T) -> f64 {
+    let begin = processor_time();
+    let mut passes = 0;
+    loop {
+        black_box(work());
+        passes += 1;
+        let time = processor_time() - begin;
+        if time > 20_000_000 {
+            return time as f64 / f64::from(passes);
+        }
+    }
+}
+
 impl Whole {
-    /// Times both sides in turn, the best of all rounds each. A side does all of the work, and answers how many items
-    /// there were, and a sum over some of their values.
+    /// Times both sides in turn, the best of all rounds each, and answers the nanoseconds of an item. A side does all of
+    /// the work, and answers how many items there were, and a sum over some of their values.
     pub fn row(
         &self,
         bench: &Bench,
         name: &str,
         mut ours: impl FnMut() -> (u64, u64),
         mut rust: impl FnMut() -> (u64, u64),
-    ) {
+    ) -> [f64; 2] {
         let (given, expected) = (ours(), rust());
         assert_eq!(given, expected, "{name}: the sides read different values");
-        // As many passes as make a fiftieth of a second, one at least.
-        let timed = |side: &mut dyn FnMut() -> (u64, u64)| {
-            let begin = processor_time();
-            let mut passes = 0;
-            loop {
-                black_box(side());
-                passes += 1;
-                let time = processor_time() - begin;
-                if time > 20_000_000 {
-                    return time as f64 / f64::from(passes);
-                }
-            }
-        };
         let mut best = [f64::INFINITY; 2];
         for _ in 0..bench.rounds {
             best[0] = best[0].min(timed(&mut ours));
@@ -59,5 +60,6 @@ impl Whole {
             count(self.items as u64),
             rust / ours
         );
+        [ours, rust]
     }
 }
