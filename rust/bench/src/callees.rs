@@ -1,6 +1,6 @@
 //! Callees in six orders: of a debug section they alone are written in another order than they stand in.
 
-use harness::{processor_time, Random};
+use harness::{count, processor_time, Random};
 
 use crate::debug::{sleb, strings, Lent, Section, KNOWN};
 use crate::table::Bench;
@@ -41,6 +41,7 @@ fn by_size(bench: &Bench, (name, address): Order) -> Option<[f64; 2]> {
     let (mut before, mut expected) = (f64::INFINITY, 0.0);
     for entries in SIZES {
         if expected > PATIENCE {
+            let entries = count(entries as u64);
             println!("{name:<34} {entries:>23}    skipped: some {expected:.0} s a call expected");
             before = expected;
             expected *= 100.0;
@@ -91,7 +92,10 @@ fn goals(last: &[(&str, Option<[f64; 2]>)]) {
     let mut worst = ("", 0.0);
     for &(name, each) in last {
         let Some([ours, rust]) = each else {
-            println!("goals: {name} was not timed at {LAST} entries");
+            println!(
+                "goals: {name} was not timed at {} entries",
+                count(LAST as u64)
+            );
             continue;
         };
         if name == "rising" {

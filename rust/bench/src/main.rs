@@ -20,6 +20,8 @@ mod strings;
 mod table;
 #[cfg(all(published, archive))]
 mod whole;
+#[cfg(all(published, archive))]
+mod worst;
 
 #[cfg(all(published, archive))]
 fn main() -> ExitCode {
@@ -31,6 +33,7 @@ fn main() -> ExitCode {
         ("parsing", parsing::rows),
         ("debug", debug::rows),
         ("callees", callees::rows),
+        ("worst", worst::rows),
     ])
 }
 

@@ -54,11 +54,12 @@ impl Whole {
             best[1] = best[1].min(timed(&mut rust));
         }
         let [ours, rust] = best.map(|time| time / self.items as f64);
+        let ratio = rust / ours;
+        let digits = if ratio < 0.1 { 5 } else { 2 };
         println!(
-            "{name:<34} {:>10} {:>12} {ours:>10.3} {rust:>10.3} {:>9.2}",
+            "{name:<34} {:>10} {:>12} {ours:>10.3} {rust:>10.3} {ratio:>9.digits$}",
             count(self.bytes as u64 >> 10),
             count(self.items as u64),
-            rust / ours
         );
         [ours, rust]
     }
