@@ -48,13 +48,16 @@ pub fn start() {
         std::thread::sleep(Duration::from_millis(200));
         let meter = METER.lock().unwrap();
         if meter.given_up.is_some_and(|end| Instant::now() > end) {
-            println!(
-                "{}: a call was given up, its limit is {:.1} s of processor time",
-                meter.case, meter.limit
-            );
-            std::process::exit(1);
+            too_long(&meter, "was given up");
         }
     });
+}
+
+/// Ends the program: a call that takes too long may be followed by many more.
+fn too_long(meter: &Meter, what: &str) -> ! {
+    let Meter { case, limit, .. } = meter;
+    println!("{case}: a call {what}, its limit is {limit:.1} s of processor time");
+    std::process::exit(1);
 }
 
 pub fn begin(case: String, limit: f64) {
@@ -90,6 +93,9 @@ fn measured<T>(call: impl FnOnce() -> T) -> T {
     let peak = if looked_at { status("VmHWM:") } else { 0 };
     let mut meter = METER.lock().unwrap();
     meter.given_up = None;
+    if seconds > meter.limit {
+        too_long(&meter, &format!("took {seconds:.2} s"));
+    }
     meter.cost.longest = meter.cost.longest.max(seconds);
     meter.cost.grown = meter.cost.grown.max(peak.saturating_sub(before));
     answer
