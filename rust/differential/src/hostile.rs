@@ -151,7 +151,7 @@ impl Soak {
         };
         self.case("at random", size, |_| {
             let mut inputs = 0;
-            while inputs < 200 || Instant::now() < until {
+            while inputs < 2_000 || Instant::now() < until {
                 compare(&mut random)?;
                 inputs += 1;
             }
