@@ -6,6 +6,7 @@ use published::format::FLAG_OVERFLOWED;
 
 use super::io::any_bytes;
 use super::{calls, refused, row, scattered};
+use crate::function::point;
 use crate::table::Bench;
 
 const ROW: usize = 16;
@@ -157,20 +158,5 @@ impl Table {
             let (layout, count) = (self.layout, self.count as u32);
             unsafe { hbc_refresh_functions(s, len, layout, 0, count, low, high, lent, words) }
         }
-    }
-}
-
-/// Flags a header and packs a place below 2^28 into it.
-pub fn point(header: &mut [u8], layout: u32, place: usize) {
-    header[header.len() - 1] |= FLAG_OVERFLOWED;
-    let [a, b, c, d] = (place as u32).to_le_bytes();
-    header[..3].copy_from_slice(&[a, b, if layout == 0 { 0 } else { c }]);
-    header[3] &= 0xFE;
-    if layout == 0 {
-        header[8..11].copy_from_slice(&[c, d, 0]);
-        header[11] &= 0xFE;
-    } else {
-        header[5] = header[5] & 0x3F | d << 6;
-        header[6] = header[6] & 0xC0 | d >> 2;
     }
 }
