@@ -1,6 +1,7 @@
 //! The function tables: function.rs of the published Rust beside the calls on function headers of libhbc_c.a.
 
 mod groups;
+pub mod record;
 
 pub use groups::compare;
 

@@ -16,6 +16,8 @@ mod lent;
 #[cfg(all(published, archive))]
 mod parsing;
 #[cfg(all(published, archive))]
+mod record;
+#[cfg(all(published, archive))]
 mod run;
 #[cfg(all(published, archive))]
 mod search;
@@ -51,7 +53,7 @@ fn main() -> ExitCode {
         Layer {
             name: "function",
             compare: function::compare,
-            record: None,
+            record: Some(function::record::write),
             replay: function::replay,
         },
         Layer {
