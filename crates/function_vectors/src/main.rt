@@ -117,23 +117,16 @@ fn see_refresh(file: &[u8], layout: Layout, a: Asked, table: &mut [u32]) -> Told
     }
 }
 
-// Whether the answer, and the tables afterwards, are what stands from a place to the record's end.
-fn is_told(s: &[u8], at: usize, end: usize, t: Told, table: &[u32]) -> bool {
-    let told = vectors::says(s, at, t);
-    let held = vectors::holds(s, told.next, table);
-    told.same && held.same && held.next == end
-}
-
 fn same_read(s: &[u8], a: Asked, end: usize, layout: Layout) -> bool {
     let mut table = [FILL; 256];
     let t = see_read(vectors::bytes(s, a.next), layout, a, &mut table);
-    is_told(s, vectors::past(s, a.next), end, t, &table)
+    vectors::is_told(s, vectors::past(s, a.next), end, t, &table)
 }
 
 fn same_refresh(s: &[u8], a: Asked, end: usize, layout: Layout) -> bool {
     let mut table = [FILL; 256];
     let t = see_refresh(vectors::bytes(s, a.next), layout, a, &mut table);
-    is_told(s, vectors::past(s, a.next), end, t, &table)
+    vectors::is_told(s, vectors::past(s, a.next), end, t, &table)
 }
 
 fn same_one(s: &[u8], a: Asked, end: usize, layout: Layout) -> bool {
@@ -141,11 +134,11 @@ fn same_one(s: &[u8], a: Asked, end: usize, layout: Layout) -> bool {
     match hbc_header::read_function(vectors::bytes(s, a.next), layout, a.start, a.count) {
         Function::Read(r) => {
             let row = row_of(r);
-            is_told(s, at, end, vectors::accepted(0, 0), &row)
+            vectors::is_told(s, at, end, vectors::accepted(0, 0), &row)
         }
         Function::Refused(r) => {
             let row = [FILL; 16];
-            is_told(s, at, end, vectors::refused(r), &row)
+            vectors::is_told(s, at, end, vectors::refused(r), &row)
         }
     }
 }
@@ -161,7 +154,7 @@ fn same_meets(s: &[u8], a: Asked, end: usize, layout: Layout) -> bool {
         a.high,
     );
     let n: usize = if met { 1 } else { 0 };
-    is_told(
+    vectors::is_told(
         s,
         vectors::past(s, a.next),
         end,

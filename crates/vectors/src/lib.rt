@@ -10,6 +10,9 @@ use libc::STDOUT_FILENO;
 // What a word of a lent table holds before a call.
 pub const FILL: u32 = 0xA5A5_A5A5;
 
+// The same of a table of 64-bit words.
+pub const FILL_LONG: u64 = 0xA5A5_A5A5_A5A5_A5A5;
+
 // The group of no record.
 pub const NO_GROUP: u64 = 0xFFFF_FFFF_FFFF_FFFF;
 
@@ -66,6 +69,16 @@ pub fn accepted(value: usize, more: usize) -> Told {
         place: 0,
         value: value as u64,
         more: more as u64,
+    }
+}
+
+// A refusal that tells its cursor.
+pub fn refused_at(r: Refusal, c: Cursor) -> Told {
+    Told {
+        number: r.number,
+        place: r.place,
+        value: c.at as u64,
+        more: 0,
     }
 }
 
@@ -209,6 +222,32 @@ pub fn holds(s: &[u8], at: usize, table: &[u32]) -> Judged {
     Judged { same, next }
 }
 
+// A long of a recorded table as it is; after the last, the one of before the call.
+fn long(s: &[u8], at: usize, listed: bool) -> Number {
+    if !listed {
+        return Number {
+            value: FILL_LONG,
+            next: at,
+        };
+    }
+    number_at(s, at)
+}
+
+// The same as `holds`, of a table of 64-bit words.
+pub fn holds_longs(s: &[u8], at: usize, table: &[u64]) -> Judged {
+    let n = number_at(s, at);
+    let mut same = n.value <= table.len() as u64;
+    let mut next = n.next;
+    let mut i: usize = 0;
+    while i < table.len() {
+        let w = long(s, next, (i as u64) < n.value);
+        same = same && table[i] == w.value;
+        next = w.next;
+        i += 1;
+    }
+    Judged { same, next }
+}
+
 // Whether a call answered as recorded.
 pub fn says(s: &[u8], at: usize, t: Told) -> Judged {
     let first = number_at(s, at);
@@ -222,6 +261,32 @@ pub fn says(s: &[u8], at: usize, t: Told) -> Judged {
             && more.value == t.more,
         next: more.next,
     }
+}
+
+// Whether a call answered, and left its table, as is recorded from a place to the record's end.
+pub fn is_told(s: &[u8], at: usize, end: usize, t: Told, table: &[u32]) -> bool {
+    let told = says(s, at, t);
+    let held = holds(s, told.next, table);
+    told.same && held.same && held.next == end
+}
+
+fn is_byte(a: &[u8], b: &[u8], i: usize) -> bool {
+    if i < a.len() {
+        if i < b.len() {
+            return a[i] == b[i];
+        }
+    }
+    false
+}
+
+pub fn same_bytes(a: &[u8], b: &[u8]) -> bool {
+    let mut same = a.len() == b.len();
+    let mut i: usize = 0;
+    while i < a.len() {
+        same = same && is_byte(a, b, i);
+        i += 1;
+    }
+    same
 }
 
 pub fn none() -> Counts {

@@ -2,6 +2,7 @@
 
 mod groups;
 mod literal;
+pub mod record;
 mod series;
 
 pub use groups::compare;

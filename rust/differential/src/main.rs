@@ -41,13 +41,13 @@ fn main() -> ExitCode {
         Layer {
             name: "table",
             compare: table::compare,
-            record: None,
+            record: Some(table::record::write),
             replay: table::replay,
         },
         Layer {
             name: "buffer",
             compare: buffer::compare,
-            record: None,
+            record: Some(buffer::record::write),
             replay: buffer::replay,
         },
         Layer {

@@ -52,6 +52,14 @@ impl Fields {
         })
     }
 
+    /// The same of 64-bit words, of which the first were written: each as it is.
+    pub fn longs(self, written: &[u64]) -> Self {
+        let fields = self.number(written.len() as u64);
+        written
+            .iter()
+            .fold(fields, |fields, &word| fields.number(word))
+    }
+
     /// The answer: a refusal's number and place, or two values.
     pub fn told(self, answer: Result<[usize; 2], (u32, u32)>) -> Self {
         match answer {

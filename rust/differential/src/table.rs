@@ -2,6 +2,7 @@
 
 mod groups;
 mod reads;
+pub mod record;
 mod strings;
 
 pub use groups::compare;
