@@ -2,7 +2,7 @@
 
 mod groups;
 
-pub use groups::compare;
+pub use groups::{compare, record};
 
 use hbc_sys::hbc_read_debug;
 use published::debug::DebugInfo;

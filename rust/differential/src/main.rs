@@ -59,13 +59,13 @@ fn main() -> ExitCode {
         Layer {
             name: "parsing",
             compare: parsing::compare,
-            record: None,
+            record: Some(parsing::record::write),
             replay: parsing::replay,
         },
         Layer {
             name: "debug",
             compare: debug::compare,
-            record: None,
+            record: Some(debug::record::write),
             replay: debug::replay,
         },
     ])

@@ -15,15 +15,15 @@ use crate::words::{
 type Compared = Result<(), Difference>;
 
 /// The words of a function's row, and those of them that are read.
-const FUNCTION: usize = 16;
-const INFO_OFFSET: usize = 6;
-const FLAGS: usize = 8;
+pub const FUNCTION: usize = 16;
+pub const INFO_OFFSET: usize = 6;
+pub const FLAGS: usize = 8;
 
 /// The words of a handler's row.
 pub const ROW: usize = 4;
 
 /// The flag of a function that has handlers.
-const HAS: u32 = 8;
+pub const HAS: u32 = 8;
 
 /// One call. `functions` and `rows` are the words lent, as they are before it.
 #[derive(Clone, Copy)]
@@ -89,7 +89,7 @@ pub fn published(file: &[u8], functions: &[u32]) -> Vec<[u32; ROW]> {
 }
 
 /// What is right: the handlers by the Rust, the refusals by document 01.
-fn right(case: &Case) -> Result<Vec<[u32; ROW]>, Refusal> {
+pub fn right(case: &Case) -> Result<Vec<[u32; ROW]>, Refusal> {
     if case.file.len() > LIMIT {
         return Err((1, 0));
     }
@@ -216,7 +216,7 @@ fn gives(run: &mut Run, file: &[u8], functions: &[u32], rows: usize) -> Compared
 }
 
 /// A function of which only two words are set.
-fn function(info_offset: u32, flags: u32) -> [u32; FUNCTION] {
+pub fn function(info_offset: u32, flags: u32) -> [u32; FUNCTION] {
     let mut row = [0; FUNCTION];
     (row[INFO_OFFSET], row[FLAGS]) = (info_offset, flags);
     row
