@@ -38,7 +38,8 @@ fn is_payload(v: Literal, want: u64) -> bool {
         Literal::Bool(_) => want == 0,
         Literal::Number(x) => same_float(x, hbc_io::float_of(want)),
         Literal::String(n) => n as u64 == want,
-        Literal::Integer(n) => n == hbc_io::signed32(vectors::low(want)),
+        Literal::Integer(n) => n == hbc_io::signed32(vectors::low(want))
+            && vectors::low(want) as u64 == want,
     }
 }
 
@@ -63,7 +64,7 @@ fn same_literal(s: &[u8], at: usize, end: usize) -> bool {
         ReadLiteral::Refused(r, c) => {
             let told = vectors::says(s, next, vectors::refused_at(r, c));
             let payload = vectors::number_at(s, told.next);
-            told.same && payload.next == end
+            told.same && payload.value == 0 && payload.next == end
         }
     }
 }
