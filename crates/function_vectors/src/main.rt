@@ -3,10 +3,7 @@
 use hbc_function::Refreshed;
 use hbc_header::Function;
 use hbc_header::Layout;
-use hbc_header::Legacy;
-use hbc_header::Modern;
 use hbc_header::Reading;
-use hbc_header::Record;
 use vectors::Counts;
 use vectors::FILL;
 use vectors::Told;
@@ -33,55 +30,6 @@ fn asked_at(s: &[u8], at: usize) -> Asked {
         high: high.value as usize,
         lent: lent.value as usize,
         next: lent.next,
-    }
-}
-
-fn legacy_row(h: Legacy) -> [u32; 16] {
-    [
-        0,
-        h.id,
-        h.offset,
-        h.param_count,
-        h.size,
-        h.name,
-        h.info_offset,
-        h.frame_size,
-        h.flags,
-        h.environment_size,
-        h.read,
-        h.write,
-        0,
-        0,
-        0,
-        0,
-    ]
-}
-
-fn modern_row(h: Modern) -> [u32; 16] {
-    [
-        1,
-        h.id,
-        h.offset,
-        h.param_count,
-        h.size,
-        h.name,
-        h.info_offset,
-        h.frame_size,
-        h.flags,
-        h.loop_depth,
-        h.number_reg,
-        h.non_ptr_reg,
-        h.read_cache,
-        h.write_cache,
-        h.new_object,
-        h.private_name,
-    ]
-}
-
-fn row_of(r: Record) -> [u32; 16] {
-    match r {
-        Record::Legacy(h) => legacy_row(h),
-        Record::Modern(h) => modern_row(h),
     }
 }
 
@@ -133,7 +81,7 @@ fn same_one(s: &[u8], a: Asked, end: usize, layout: Layout) -> bool {
     let at = vectors::past(s, a.next);
     match hbc_header::read_function(vectors::bytes(s, a.next), layout, a.start, a.count) {
         Function::Read(r) => {
-            let row = row_of(r);
+            let row = hbc_header::row_words(r);
             vectors::is_told(s, at, end, vectors::accepted(0, 0), &row)
         }
         Function::Refused(r) => {

@@ -117,8 +117,11 @@ fn worked(sample: &mut Sample) {
         // A large header that just fits, and one cut by a byte.
         let mut large = table(layout, &vec![0; layout.own() + layout.large()], 1);
         large.point(&mut random, 0, layout.own() as u64);
+        let read = |large: &Table| right(&large.case(Read, &lent(1, 0)), &mut lent(1, 0));
+        assert_eq!(read(&large), Ok(1));
         add(sample, large.case(Read, &lent(1, 0)));
         large.file.pop();
+        assert_eq!(read(&large), Err((3, 0)));
         add(sample, large.case(Read, &lent(1, 0)));
         // The large header of function 0 cut, and header 1 cut.
         let mut both = table(layout, &vec![0; 2 * layout.own() - 1], 2);

@@ -48,8 +48,15 @@ fn listed(sample: &mut Sample, file: &[u8], functions: &[u32], count: u32, lent:
     sample.add(0, number, fields);
 }
 
-/// The starts of a file's sections: where, and how many regexps, bytes of storage, CJS modules and sources.
-fn found(sample: &mut Sample, file: &[u8], start: usize, counts: [u32; 3], sources: Option<u32>) {
+/// The sections from a start, by how many regexps, bytes of storage, CJS modules and sources there are; the refusal's
+/// number.
+fn found(
+    sample: &mut Sample,
+    file: &[u8],
+    start: usize,
+    counts: [u32; 3],
+    sources: Option<u32>,
+) -> u32 {
     let [regexps, storage, cjs] = counts;
     let rows = [FILL; sections::ROWS * sections::ROW];
     // Beside sources that are not given stands a count that must not be looked at.
@@ -75,6 +82,7 @@ fn found(sample: &mut Sample, file: &[u8], start: usize, counts: [u32; 3], sourc
         .told(right.map(|_| [0, 0]))
         .table(&words);
     sample.add(1 + sources.is_none() as usize, number, fields);
+    number
 }
 
 pub fn write(mut random: Random) -> (Vec<u8>, Vec<String>) {
@@ -92,11 +100,13 @@ pub fn write(mut random: Random) -> (Vec<u8>, Vec<String>) {
 /// Document 01's cases: no handler where one of two is cut; a section whose padding leaves the file.
 fn worked(sample: &mut Sample) {
     let mut file = [0; 64];
-    for count in [2, 1, 0] {
+    for (count, rows) in [(2, 0), (1, 1), (0, 0)] {
         file[48] = count;
+        assert_eq!(handlers::published(&file, &function(45, HAS)).len(), rows);
         listed(sample, &file, &function(45, HAS), 1, 8);
     }
-    found(sample, &[0; 10], 8, [0, 1, 0], None);
+    let padded = found(sample, &[0; 10], 8, [0, 1, 0], None);
+    assert_eq!(padded, 2);
     found(sample, &[0; 12], 9, [0, 0, 0], None);
 }
 
