@@ -6,6 +6,7 @@ use super::groups::{any_table, edited, Table};
 use super::Op::*;
 use super::{right, Case, Layout, LAYOUTS, ROW};
 use crate::record::{Fields, Sample, FILL};
+use crate::words::any_bytes;
 
 const NAMES: [&str; 8] = [
     "read_functions legacy16",
@@ -70,6 +71,7 @@ pub fn write(mut random: Random) -> (Vec<u8>, Vec<String>) {
     for layout in LAYOUTS {
         edges(&mut sample, &mut random, layout);
         places(&mut sample, &mut random, layout);
+        apart(&mut sample, &mut random, layout);
     }
     while sample.more(50_000) {
         edit(&mut sample, &mut random);
@@ -136,7 +138,7 @@ fn worked(sample: &mut Sample) {
 /// Starts, counts, numbers and spans around the file's end and far behind it; tables a word short, exact and over.
 fn edges(sample: &mut Sample, random: &mut Random, layout: Layout) {
     let own = layout.own();
-    let mut made = table(layout, &crate::words::any_bytes(random, 2 * own + 5), 2);
+    let mut made = table(layout, &any_bytes(random, 2 * own + 5), 2);
     for at in [own - 1, 2 * own - 1, 2 * own + 4] {
         made.file[at] &= 0xDF;
     }
@@ -219,7 +221,7 @@ fn places(sample: &mut Sample, random: &mut Random, layout: Layout) {
     .chain(far)
     .chain(farther)
     {
-        let mut made = table(layout, &crate::words::any_bytes(random, len), 1);
+        let mut made = table(layout, &any_bytes(random, len), 1);
         made.point(random, 0, place);
         for op in [Read, One] {
             let count = if op == Read { 1 } else { 0 };
@@ -249,6 +251,21 @@ fn places(sample: &mut Sample, random: &mut Random, layout: Layout) {
                 );
             }
         }
+    }
+}
+
+/// Functions 0, 2 and 4 meet a span by their large headers, 1 and 3 don't.
+fn apart(sample: &mut Sample, random: &mut Random, layout: Layout) {
+    let (own, large) = (layout.own(), layout.large());
+    let mut made = table(layout, &any_bytes(random, 5 * own + large + 2), 5);
+    for id in 0..5 {
+        made.file[(id + 1) * own - 1] &= 0xDF;
+    }
+    for (id, place) in [(0, 5 * own), (2, 5 * own + 2), (4, 5 * own + 1)] {
+        made.point(random, id, place as u64);
+    }
+    for at in [5 * own, 5 * own + 1, 5 * own + 2, 5 * own + large, 2 * own] {
+        add(sample, made.refresh((at, at + 1), &lent(5, 1)));
     }
 }
 

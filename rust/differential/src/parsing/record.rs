@@ -88,10 +88,11 @@ fn found(
 pub fn write(mut random: Random) -> (Vec<u8>, Vec<String>) {
     let mut sample = Sample::new(&NAMES);
     worked(&mut sample);
+    most(&mut sample, &mut random);
     places(&mut sample, &mut random);
     tables(&mut sample, &mut random);
     counts(&mut sample, &mut random);
-    while sample.more(45_000) {
+    while sample.more(57_000) {
         any(&mut sample, &mut random);
     }
     sample.done(answers)
@@ -108,6 +109,16 @@ fn worked(sample: &mut Sample) {
     let padded = found(sample, &[0; 10], 8, [0, 1, 0], None);
     assert_eq!(padded, 2);
     found(sample, &[0; 12], 9, [0, 0, 0], None);
+}
+
+/// A thousand handlers, for which no rows are lent, and one more, which are not shown; each with room in the file.
+fn most(sample: &mut Sample, random: &mut Random) {
+    for (count, rows) in [(1000u32, 1000), (1001, 0)] {
+        let mut file = any_bytes(random, 8 + 12 * count as usize);
+        file[4..8].copy_from_slice(&count.to_le_bytes());
+        assert_eq!(handlers::published(&file, &function(4, HAS)).len(), rows);
+        listed(sample, &file, &function(4, HAS), 1, 8);
+    }
 }
 
 /// A table of handlers at every place, cut at every byte, with every reason why none is shown.
