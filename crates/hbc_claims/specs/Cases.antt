@@ -22,7 +22,6 @@ use Rattle.hbc_table_strings.specs.declared.Decoded.the-variants.{Rows}
 use Rattle.hbc_table_strings.specs.Kinds.{runKind, holding, movedOn, heldAt, kindOf}
 use Rattle.hbc_table_strings.specs.Strings.{longOne, pairsTaken, pairTaken, lacksPair, pairAt, entryOf, bytesOf, rowFor, rowWith, rowOf, scan, lesser, decodeAnswer, decodedTable}
 use Rattle.hbc_buffer_literal.specs.Literal.{widthOf, literalOf}
-use Rattle.hbc_buffer.specs.declared.Series.{Series}
 use Rattle.hbc_buffer.specs.declared.Series.the-variants.{Used}
 use Rattle.hbc_buffer.specs.Series.{tagAt, headAt, runAt, step, after, valueAt, kindAt, payloadAt, filled, seriesAnswer, tableAfter}
 

@@ -1,5 +1,5 @@
 -- The number of tags that are looked at for one with values never ends a series early.
-use Prim.Native.Nat.{ℕ, zero, suc, _+_, _-_, _≤_, _<_}
+use Prim.Native.Nat.{ℕ, zero, suc, _+_, _-_, _≤_}
 use mathlib.Core.Path.{_≡_, refl, sym, ap, _∙_}
 use mathlib.Core.List.{List}
 use mathlib.Core.Bool.{Bool, true, false}
@@ -7,7 +7,7 @@ use native.Mathlib.Omega.{arith}
 use borrow.Author.Tests.{eqb-true, eqb-false}
 use lib.Dec.{eqb}
 use lib.ListN.{length}
-use Rattle.hbc_io.specs.Outcome.{Outcome, got, refused, cursorAt, refusal, limit}
+use Rattle.hbc_io.specs.Outcome.{Outcome, got, refused, refusal, limit}
 use Rattle.hbc_io.specs.declared.Cursor.{Cursor}
 use Rattle.hbc_buffer.specs.Series.{Run, tagAt, headAt}
 use Rattle.hbc_buffer.proofs.Tags.{plain-cut, head-here, head-skip, head-none, head-out, tag-on}

@@ -8,12 +8,15 @@ use borrow.Author.Tests.{ne-eqb, le-ltb}
 use lib.Dec.{ltb}
 use lib.ListN.{length, take, drop}
 use Rattle.hbc_io.specs.declared.Refusal.{Refusal}
-use Rattle.hbc_io.specs.Outcome.{cursorAt}
+use Rattle.hbc_io.specs.declared.Cursor.{Cursor}
+use Rattle.hbc_io.specs.Outcome.{refused, cursorAt}
+use Rattle.hbc_buffer_literal.specs.Literal.{widthOf, literalOf, literalAt}
 use Rattle.hbc_buffer.specs.declared.Series.{Series}
 use Rattle.hbc_buffer.specs.declared.Series.the-variants as series
 use Rattle.hbc_buffer.specs.Series.{kindAt, payloadAt, tableAfter, seriesAnswer, ReadSeries}
 use Rattle.hbc_buffer_object.specs.declared.Object.{Object}
 use Rattle.hbc_buffer_object.specs.Object.{named, bytesOf, startOf, objectOf, objectPart, ReadObject}
+use Rattle.hbc_claims_io.specs.Refused.{plain-left}
 use Rattle.hbc_claims_buffer.specs.Within.{used-within}
 
 -- a refused series leaves both tables as they were
@@ -36,6 +39,24 @@ empty s = by-tests (ltb (length s) 0) (ltb (length s - 0) 0) (take 0 (drop 0 s))
 -- and hands back no bytes
 pub refused-empty : (keys values : List ℕ) (b : Bool) (offset count : ℕ) (r : Refusal) → objectPart keys values (objectOf b offset count (series.Refused r)) ≡ []
 refused-empty keys values b offset count r = empty (named b keys values)
+
+-- an object whose refusal has a number leaves both tables as they were, and hands back no bytes
+module _ (keys values : List ℕ) (b : Bool) (offset count : ℕ) (ks ps ks′ ps′ : List ℕ) (o : Object) where
+  by-answer : (a : Series) → o ≡ objectOf b offset count a → (f g : ℕ → ℕ) → ks′ ≡ tableAfter a f count ks → ps′ ≡ tableAfter a g count ps → (o .refusal .number ≡ 0 → ⊥)
+      → (ks′ ≡ ks) × (ps′ ≡ ps) × (objectPart keys values o ≡ [])
+  unfolding tableAfter
+  by-answer (series.Used n) e f g k p h = absurd (h (ap (λ (x : Object). x .refusal .number) e))
+  by-answer (series.Refused r) e f g k p h = (k, p, ap (objectPart keys values) e ∙ refused-empty keys values b offset count r)
+
+pub object-left : {keys values : List ℕ} {b : Bool} {offset count : ℕ} {ks ps ks′ ps′ : List ℕ} {o : Object} → ReadObject keys values b offset count ks ps o ks′ ps′
+    → (o .refusal .number ≡ 0 → ⊥) → (ks′ ≡ ks) × (ps′ ≡ ps) × (objectPart keys values o ≡ [])
+object-left {keys} {values} {b} {offset} {count} {ks} {ps} {ks′} {ps′} {o} p h =
+    by-answer keys values b offset count ks ps ks′ ps′ o (seriesAnswer (named b keys values) offset count (length ks) (length ps)) (p .says) _ _ (p .kinds-left) (p .payloads-left) h
+
+-- a refused literal leaves the cursor
+pub literal-left : (tag : ℕ) (s : List ℕ) (c : Cursor) {k : Refusal} {n : Cursor} → refused k n ≡ literalAt tag s c → n ≡ c
+unfolding literalAt
+literal-left tag s c e = plain-left s c (widthOf tag) (literalOf tag) e
 
 -- for count 0: the empty beginning
 pub none-empty : (keys values : List ℕ) (b : Bool) (offset : ℕ) → objectPart keys values (objectOf b offset 0 (series.Used 0)) ≡ []

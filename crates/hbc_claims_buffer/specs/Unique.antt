@@ -1,12 +1,8 @@
 -- Each public call's contract, as the checker has it, leaves one answer, and one value for every lent word.
-use mathlib.Core.Path.{_≡_, refl, sym, ap, _∙_}
-use Prim.Native.Nat.{ℕ}
+use mathlib.Core.Path.{_≡_, refl}
 use denote.Ref.{now}
-use Rattle.hbc_buffer_literal.specs.declared.Literal.{Literal}
-use Rattle.hbc_io.specs.Outcome.{Outcome, got, refused}
-use Rattle.hbc_io.specs.Answers.{ofU64}
-use Rattle.hbc_io.specs.declared.ReadU64.{ReadU64}
-use Rattle.hbc_io.specs.declared.ReadU64.the-variants as u64
+use Rattle.hbc_io.proofs.Reading.{not-both}
+use Rattle.hbc_io.proofs.Alone.{oneU64}
 use Rattle.hbc_buffer_literal.specs.declared.ReadLiteral.{ReadLiteral}
 use Rattle.hbc_buffer_literal.specs.declared.ReadLiteral.the-variants as lit
 use Rattle.hbc_buffer_literal.specs.Literal.{ofLiteral}
@@ -17,28 +13,14 @@ use Rattle.hbc_buffer_literal.proofs.read_literal.Reads as of-read-literal
 use Rattle.hbc_buffer.proofs.read_series.Reads as of-read-series
 use Rattle.hbc_buffer_object.proofs.object_part.Reads as of-object-part
 use Rattle.hbc_buffer_object.proofs.read_object.Reads as of-read-object
-use Rattle.hbc_claims_law.specs.Law.{One, Seen, same}
-
--- and the words that E, all parameters as they are left, holds at two places
-abbrev pub Both : {K A R E : Type 0} → (K → A → R → E → Type 0) → {W X : Type 0} → (E → W) → (E → X) → Type 0
-Both {K} {A} {R} {E} L w v = (k : K) (a : A) (r q : R) (s u : E) → L k a r s → L k a q u → (r ≡ q) × (w s ≡ w u) × (v s ≡ v u)
+use Rattle.hbc_claims_law.specs.Law.{One, Seen, Both2, same}
 
 -- an answer is known by what it says
-abbrev back-literal : Outcome Literal → ReadLiteral
-back-literal (got v n) = lit.Got v n
-back-literal (refused r n) = lit.Refused r n
-
-literal-back : (r : ReadLiteral) → back-literal (ofLiteral r) ≡ r
-literal-back (lit.Got v n) = refl
-literal-back (lit.Refused r n) = refl
-
-abbrev back-u64 : Outcome ℕ → ReadU64
-back-u64 (got v n) = u64.Got v n
-back-u64 (refused r n) = u64.Refused r n
-
-u64-back : (r : ReadU64) → back-u64 (ofU64 r) ≡ r
-u64-back (u64.Got v n) = refl
-u64-back (u64.Refused r n) = refl
+oneLiteral : (r q : ReadLiteral) → ofLiteral r ≡ ofLiteral q → r ≡ q
+oneLiteral (lit.Got v n) (lit.Got w m) e = cc
+oneLiteral (lit.Refused a n) (lit.Refused b m) e = cc
+oneLiteral (lit.Got v n) (lit.Refused b m) e = absurd (not-both refl e)
+oneLiteral (lit.Refused a n) (lit.Got w m) e = absurd (not-both e refl)
 
 pub data Call : Type 0 where
   width : Call
@@ -54,15 +36,15 @@ Determined width = One of-width.Learnt
 Determined kind = One of-kind.Learnt
 Determined read_payload = One of-read-payload.Learnt
 Determined read_literal = One of-read-literal.Learnt
-Determined read_series = Both of-read-series.Learnt (λ s. now (s .1 .1 .1 .0)) (λ s. now (s .1 .1 .1 .1 .0))
-Determined read_object = Both of-read-object.Learnt (λ s. now (s .1 .1 .1 .1 .1 .0)) (λ s. now (s .1 .1 .1 .1 .1 .1 .0))
+Determined read_series = Both2 of-read-series.Learnt (λ s. now (s .1 .1 .1 .0)) (λ s. now (s .1 .1 .1 .1 .0))
+Determined read_object = Both2 of-read-object.Learnt (λ s. now (s .1 .1 .1 .1 .1 .0)) (λ s. now (s .1 .1 .1 .1 .1 .1 .0))
 Determined object_part = Seen of-object-part.Learnt (λ r. now r)
 
 pub determined : (c : Call) → Determined c
 determined width = λ k a r q s u. same
 determined kind = λ k a r q s u. same
-determined read_payload = λ k a r q s u e f. sym (u64-back r) ∙ ap back-u64 (same e f) ∙ u64-back q
-determined read_literal = λ k a r q s u e f. sym (literal-back r) ∙ ap back-literal (same e f) ∙ literal-back q
+determined read_payload = λ k a r q s u e f. oneU64 r q (same e f)
+determined read_literal = λ k a r q s u e f. oneLiteral r q (same e f)
 determined read_series = λ k a r q s u e f. (same (e .says) (f .says), same (e .kinds-left) (f .kinds-left), same (e .payloads-left) (f .payloads-left))
 determined read_object = λ k a r q s u e f. (same (e .says) (f .says), same (e .kinds-left) (f .kinds-left), same (e .payloads-left) (f .payloads-left))
 determined object_part = λ k a r q s u. same

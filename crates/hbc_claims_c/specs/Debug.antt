@@ -2,22 +2,18 @@
 use denote.Ref.{now}
 use Rattle.hbc_c.specs.Debug.{counts}
 use Rattle.hbc_debug.specs.Debug.{tables}
-use Rattle.hbc_claims_law.specs.Law.{Part, same}
+use Rattle.hbc_claims_law.specs.Law.{Both2, same}
 use Rattle.hbc_c.proofs.debug.hbc_read_debug.Reads as of-read-debug
 
 pub data Call : Type 0 where
   hbc_read_debug : Call
 
--- the answer, then each lent number or table
+-- the answer, the four tables, the four counts
 abbrev pub Determined : Call → Type 0
 Determined hbc_read_debug =
-    Part of-read-debug.Learnt (λ r s. r)
-    × Part of-read-debug.Learnt (λ r s. tables (now (s .1 .1 .0)) (now (s .1 .1 .1 .0)) (now (s .1 .1 .1 .1 .0)) (now (s .1 .1 .1 .1 .1 .0)))
-    × Part of-read-debug.Learnt (λ r s. counts (now (s .1 .1 .1 .1 .1 .1 .0)) (now (s .1 .1 .1 .1 .1 .1 .1 .0)) (now (s .1 .1 .1 .1 .1 .1 .1 .1 .0)) (now (s .1 .1 .1 .1 .1 .1 .1 .1 .1 .0)))
+    Both2 of-read-debug.Learnt
+    (λ s. tables (now (s .1 .1 .0)) (now (s .1 .1 .1 .0)) (now (s .1 .1 .1 .1 .0)) (now (s .1 .1 .1 .1 .1 .0)))
+    (λ s. counts (now (s .1 .1 .1 .1 .1 .1 .0)) (now (s .1 .1 .1 .1 .1 .1 .1 .0)) (now (s .1 .1 .1 .1 .1 .1 .1 .1 .0)) (now (s .1 .1 .1 .1 .1 .1 .1 .1 .1 .0)))
 
 pub determined : (c : Call) → Determined c
-determined hbc_read_debug = (
-  λ k a r q s u e f. same (e .says) (f .says),
-  λ k a r q s u e f. same (e .leaves) (f .leaves),
-  λ k a r q s u e f. same (e .counted) (f .counted),
-)
+determined hbc_read_debug = λ k a r q s u e f. (same (e .says) (f .says), same (e .leaves) (f .leaves), same (e .counted) (f .counted))

@@ -1,5 +1,4 @@
 -- Each exported call's contract, as the checker has it, leaves one answer, and one value for every lent word.
-use mathlib.Core.Path.{_≡_}
 use denote.Ref.{now}
 use Rattle.hbc_claims_law.specs.Law.{One, Both, same}
 use Rattle.hbc_c.proofs.function.hbc_read_functions.Reads as of-read-functions

@@ -1,11 +1,12 @@
--- The exported calls of the cursor layer: each contract, as the checker has it, leaves one answer, and one value for every lent number.
+-- The exported calls of the cursor layer: each contract, as the checker has it, leaves one answer, and one value for every lent number (in the order of
+-- its parameters: the cursor, the value or the span).
 use mathlib.Core.Path.{_≡_}
 use denote.Ref.{now}
 use Prim.Native.Nat.{ℕ}
 use Rattle.hbc_io.specs.Outcome.{Outcome}
 use Rattle.hbc_io.specs.declared.Span.{Span}
 use Rattle.hbc_c.specs.Io.{Moves, Told, ToldSpan}
-use Rattle.hbc_claims_law.specs.Law.{One, same}
+use Rattle.hbc_claims_law.specs.Law.{One, Both, Both2, Both3, same}
 use Rattle.hbc_c.proofs.io.hbc_bits.Reads as of-bits
 use Rattle.hbc_c.proofs.io.hbc_remaining.Reads as of-remaining
 use Rattle.hbc_c.proofs.io.hbc_seek.Reads as of-seek
@@ -22,17 +23,6 @@ use Rattle.hbc_c.proofs.io.hbc_read_sleb128.Reads as of-read-sleb128
 use Rattle.hbc_c.proofs.io.hbc_read_bytes.Reads as of-read-bytes
 use Rattle.hbc_c.proofs.io.hbc_read_cstring.Reads as of-read-cstring
 use Rattle.hbc_c.proofs.io.hbc_read_length_prefixed_string.Reads as of-read-length-prefixed-string
-
--- one answer and one cursor; and one value; and one span, as two numbers. Where a call's lent numbers stand among its parameters is said at each
-abbrev pub Moving : {K A E : Type 0} → (K → A → ℕ → E → Type 0) → (E → ℕ) → Type 0
-Moving {K} {A} {E} L at = (k : K) (a : A) (r q : ℕ) (s u : E) → L k a r s → L k a q u → (r ≡ q) × (at s ≡ at u)
-
-abbrev pub Reading : {K A E W : Type 0} → (K → A → ℕ → E → Type 0) → (E → ℕ) → (E → W) → Type 0
-Reading {K} {A} {E} L at value = (k : K) (a : A) (r q : ℕ) (s u : E) → L k a r s → L k a q u → (r ≡ q) × (at s ≡ at u) × (value s ≡ value u)
-
-abbrev pub Spanning : {K A E : Type 0} → (K → A → ℕ → E → Type 0) → (E → ℕ) → (E → ℕ) → (E → ℕ) → Type 0
-Spanning {K} {A} {E} L at start len =
-    (k : K) (a : A) (r q : ℕ) (s u : E) → L k a r s → L k a q u → (r ≡ q) × (at s ≡ at u) × (start s ≡ start u) × (len s ≡ len u)
 
 module _ {A : Type 0} {o : Outcome A} {r q at at′ : ℕ} where
   moves-one : Moves o r at → Moves o q at′ → (r ≡ q) × (at ≡ at′)
@@ -66,20 +56,20 @@ pub data Call : Type 0 where
 abbrev pub Determined : Call → Type 0
 Determined hbc_bits = One of-bits.Learnt
 Determined hbc_remaining = One of-remaining.Learnt
-Determined hbc_seek = Moving of-seek.Learnt (λ s. now (s .1 .0))
-Determined hbc_align = Moving of-align.Learnt (λ s. now (s .1 .0))
-Determined hbc_read_u8 = Reading of-read-u8.Learnt (λ s. now (s .1 .0)) (λ s. now (s .1 .1 .0))
-Determined hbc_read_u16 = Reading of-read-u16.Learnt (λ s. now (s .1 .0)) (λ s. now (s .1 .1 .0))
-Determined hbc_read_u32 = Reading of-read-u32.Learnt (λ s. now (s .1 .0)) (λ s. now (s .1 .1 .0))
-Determined hbc_read_u64 = Reading of-read-u64.Learnt (λ s. now (s .1 .0)) (λ s. now (s .1 .1 .0))
-Determined hbc_read_i8 = Reading of-read-i8.Learnt (λ s. now (s .1 .0)) (λ s. now (s .1 .1 .0))
-Determined hbc_read_i32 = Reading of-read-i32.Learnt (λ s. now (s .1 .0)) (λ s. now (s .1 .1 .0))
-Determined hbc_read_f64 = Reading of-read-f64.Learnt (λ s. now (s .1 .0)) (λ s. now (s .1 .1 .0))
-Determined hbc_read_uleb128 = Reading of-read-uleb128.Learnt (λ s. now (s .1 .0)) (λ s. now (s .1 .1 .0))
-Determined hbc_read_sleb128 = Reading of-read-sleb128.Learnt (λ s. now (s .1 .0)) (λ s. now (s .1 .1 .0))
-Determined hbc_read_bytes = Spanning of-read-bytes.Learnt (λ s. now (s .1 .0)) (λ s. now (s .1 .1 .1 .0)) (λ s. now (s .1 .1 .1 .1 .0))
-Determined hbc_read_cstring = Spanning of-read-cstring.Learnt (λ s. now (s .1 .0)) (λ s. now (s .1 .1 .0)) (λ s. now (s .1 .1 .1 .0))
-Determined hbc_read_length_prefixed_string = Spanning of-read-length-prefixed-string.Learnt (λ s. now (s .1 .0)) (λ s. now (s .1 .1 .0)) (λ s. now (s .1 .1 .1 .0))
+Determined hbc_seek = Both of-seek.Learnt (λ s. now (s .1 .0))
+Determined hbc_align = Both of-align.Learnt (λ s. now (s .1 .0))
+Determined hbc_read_u8 = Both2 of-read-u8.Learnt (λ s. now (s .1 .0)) (λ s. now (s .1 .1 .0))
+Determined hbc_read_u16 = Both2 of-read-u16.Learnt (λ s. now (s .1 .0)) (λ s. now (s .1 .1 .0))
+Determined hbc_read_u32 = Both2 of-read-u32.Learnt (λ s. now (s .1 .0)) (λ s. now (s .1 .1 .0))
+Determined hbc_read_u64 = Both2 of-read-u64.Learnt (λ s. now (s .1 .0)) (λ s. now (s .1 .1 .0))
+Determined hbc_read_i8 = Both2 of-read-i8.Learnt (λ s. now (s .1 .0)) (λ s. now (s .1 .1 .0))
+Determined hbc_read_i32 = Both2 of-read-i32.Learnt (λ s. now (s .1 .0)) (λ s. now (s .1 .1 .0))
+Determined hbc_read_f64 = Both2 of-read-f64.Learnt (λ s. now (s .1 .0)) (λ s. now (s .1 .1 .0))
+Determined hbc_read_uleb128 = Both2 of-read-uleb128.Learnt (λ s. now (s .1 .0)) (λ s. now (s .1 .1 .0))
+Determined hbc_read_sleb128 = Both2 of-read-sleb128.Learnt (λ s. now (s .1 .0)) (λ s. now (s .1 .1 .0))
+Determined hbc_read_bytes = Both3 of-read-bytes.Learnt (λ s. now (s .1 .0)) (λ s. now (s .1 .1 .1 .0)) (λ s. now (s .1 .1 .1 .1 .0))
+Determined hbc_read_cstring = Both3 of-read-cstring.Learnt (λ s. now (s .1 .0)) (λ s. now (s .1 .1 .0)) (λ s. now (s .1 .1 .1 .0))
+Determined hbc_read_length_prefixed_string = Both3 of-read-length-prefixed-string.Learnt (λ s. now (s .1 .0)) (λ s. now (s .1 .1 .0)) (λ s. now (s .1 .1 .1 .0))
 
 pub determined : (c : Call) → Determined c
 determined hbc_bits = λ k a r q s u. same

@@ -5,7 +5,7 @@ use Prim.Native.Nat.{ℕ}
 use lib.IntN.{pos, negsuc}
 use lib.ListN.{length, getD}
 use Rattle.hbc_io_leb.specs.Answers.{slebOf}
-use Rattle.hbc_io.specs.Outcome.{refused, refusal}
+use Rattle.hbc_io.specs.Outcome.{refusal}
 use Rattle.hbc_io.specs.Plain.{spanOf, bytesAt}
 use Rattle.hbc_io_leb.specs.Leb.{lebBytes}
 use Rattle.hbc_io_text.specs.Text.{prefixed}

@@ -2,20 +2,28 @@
 use mathlib.Core.Path.{_≡_, refl, sym, _∙_}
 use mathlib.Core.Bool.{Bool, true, false, cond}
 use mathlib.Core.List.{List, [], _∷_}
-use Prim.Native.Nat.{ℕ, suc, _+_, _≤_}
+use Prim.Native.Nat.{ℕ, suc, _+_, _≤_, _<_}
 use native.Mathlib.Omega.{arith}
 use lib.ListN.{length, getD, set}
 use lib.Seq.{sets, getD-set-other}
-use Rattle.hbc_io.specs.Outcome.{refusal}
+use borrow.Author.Tests.{lt-ltb}
+use Rattle.hbc_io.specs.Outcome.{refused, valued, refusal, limit}
+use Rattle.hbc_io.specs.declared.Cursor.{Cursor}
+use Rattle.hbc_io.proofs.Reading.{valued-refused}
+use Rattle.hbc_io_leb.specs.Leb.{lebBytes}
+use Rattle.hbc_io_leb.specs.Answers.{slebOf}
+use Rattle.hbc_io_leb.specs.declared.Sleb.{Sleb}
+use Rattle.hbc_debug_items.specs.Signed.{slebAt}
+use Rattle.hbc_claims_io.specs.Refused.{lebLeft, leb-left}
 use Rattle.hbc_io.specs.declared.Refusal.{Refusal}
 use Rattle.hbc_debug_parts.specs.Parts.{partsOf, bytesOf}
 use Rattle.hbc_debug_parts.specs.declared.InFile.{InFile}
 use Rattle.hbc_debug_parts.specs.declared.FindParts.{FindParts}
-use Rattle.hbc_debug_strings.specs.Strings.{stringsOf, stringWords}
+use Rattle.hbc_debug_strings.specs.Strings.{stringsOf, stringWords, stringTable}
 use Rattle.hbc_debug_scopes.specs.Scopes.{scopesOf, scopeWords, nameWords}
 use Rattle.hbc_debug_callees.specs.Callees.{calleesOf, calleeWords}
 use Rattle.hbc_debug_parts.specs.declared.FindParts.the-variants as find
-use Rattle.hbc_debug.specs.Debug.{Tables, tables, countsOf, fits, filled, answerIn, tablesIn, ReadSection}
+use Rattle.hbc_debug.specs.Debug.{Tables, countsOf, fits, filled, answerIn, tablesIn, ReadSection}
 use Rattle.hbc_debug.specs.declared.Counts.{Counts}
 use Rattle.hbc_debug.specs.declared.ReadDebug.{ReadDebug}
 use Rattle.hbc_debug.specs.declared.ReadDebug.the-variants as answer
@@ -24,7 +32,7 @@ either : (b : Bool) (k : Counts) (r q : Refusal) (t u : Tables) → cond b (answ
 either true k r q t u e = let z : _≡_ {A = ℕ} 0 1 = cc in absurd (omega arith)
 either false k r q t u e = refl
 
-in-parts : (f : FindParts) (file : List ℕ) (t : Tables) (r : Refusal) → answerIn f file t ≡ answer.Refused r → tablesIn f file t ≡ t
+pub in-parts : (f : FindParts) (file : List ℕ) (t : Tables) (r : Refusal) → answerIn f file t ≡ answer.Refused r → tablesIn f file t ≡ t
 in-parts (find.Refused k) file t r e = refl
 in-parts (find.Found p) file t r e =
     let st = bytesOf file (p .strings) in
@@ -36,6 +44,16 @@ in-parts (find.Found p) file t r e =
 pub refused-leaves : (file : List ℕ) (offset : ℕ) (before after : Tables) (r : ReadDebug) (k : Refusal)
     → ReadSection file offset before r after → r ≡ answer.Refused k → after ≡ before
 refused-leaves file offset before after r k s e = s .leaves ∙ in-parts (partsOf file offset) file before k (sym (s .says) ∙ e)
+
+-- strings that would not lie in a file of 2^30 bytes are not written
+pub strings-left : (base : InFile) (s before : List ℕ) → limit < base .0 + length s → stringTable base s before ≡ before
+unfolding stringTable
+strings-left base s before h = rw (lt-ltb limit (base .0 + length s) h)
+
+-- a refused number leaves the cursor as every LEB128 read does
+pub bits-left : {A : Type 0} (f : Sleb → A) (s : List ℕ) (c : Cursor) {k : Refusal} {n : Cursor} → refused k n ≡ valued f (slebAt s c) → n ≡ lebLeft s c k
+unfolding slebAt
+bits-left f s c {k} {n} e = leb-left s c slebOf (sym (valued-refused f (valued slebOf (lebBytes s c)) k n (sym e)))
 
 -- words stored from a place on change no word past them
 pub sets-past : (ws t : List ℕ) (at i : ℕ) → at + length ws ≤ i → getD (sets t at ws) i 0 ≡ getD t i 0

@@ -130,12 +130,15 @@ module _ {a b : List ℕ} {low high : ℕ} (v : Same a b low high) (layout : Lay
   by-case reading.Read (refreshed.Refused w) e f g = absurd (no-gives (sym e))
   by-case (reading.Refused y) (refreshed.Done n) e f g = absurd (no-gives e)
 
-  pub demand3 : {r : Reading} {q : Refreshed} → low ≤ high → high ≤ length b → ReadFunctions b layout start count t r t₂
-      → RefreshFunctions b layout start count low high t₁ q t₃ → AsFresh r t₂ t₁ q t₃
-  demand3 {r} {q} l h f g =
+  -- one equation for the four directions
+  pub answers : {r : Reading} {q : Refreshed} → low ≤ high → high ≤ length b → ReadFunctions b layout start count t r t₂
+      → RefreshFunctions b layout start count low high t₁ q t₃ → ofReading r ≡ asked (ofRefreshed q)
+  answers l h f g =
       let x = accepted a layout start count (length t) (sym (p .says)) in
       let n : length t₁ ≡ length t = ap length (was-read p) ∙ rows-long all (functionAt a layout start) t count (x .holds) in
-      by-case r q
-      (f .says ∙ same-answer v l h layout start count (length t) (sym (p .says))
-      ∙ ap (λ (m : ℕ). asked (refreshAnswer b layout start count low high m)) (sym n) ∙ ap asked (sym (g .says)))
-      f g
+      f .says ∙ same-answer v l h layout start count (length t) (sym (p .says))
+      ∙ ap (λ (m : ℕ). asked (refreshAnswer b layout start count low high m)) (sym n) ∙ ap asked (sym (g .says))
+
+  pub demand3 : {r : Reading} {q : Refreshed} → low ≤ high → high ≤ length b → ReadFunctions b layout start count t r t₂
+      → RefreshFunctions b layout start count low high t₁ q t₃ → AsFresh r t₂ t₁ q t₃
+  demand3 {r} {q} l h f g = by-case r q (answers l h f g) f g

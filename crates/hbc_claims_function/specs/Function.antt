@@ -1,5 +1,5 @@
 -- A function that does not meet the span is the same in two files that are the same outside it; and one that is read has its header in the file.
-use Prim.Native.Nat.{ℕ, _+_, _*_, _/_, _≤_, _<_}
+use Prim.Native.Nat.{ℕ, _+_, _*_, _/_, _≤_}
 use mathlib.Core.Path.{_≡_, refl, ap, sym, _∙_}
 use mathlib.Core.List.{List}
 use mathlib.Core.Bool.{Bool, true, false, cond}
@@ -19,7 +19,7 @@ use Rattle.hbc_header.specs.declared.Ground.{Ground}
 use Rattle.hbc_header.specs.declared.Ground.the-variants as ground
 use Rattle.hbc_header.specs.declared.Where.{Where}
 use Rattle.hbc_header.specs.declared.Where.the-variants as wh
-use Rattle.hbc_header.specs.Answer.{Answer, gives, refuses, asked}
+use Rattle.hbc_header.specs.Answer.{Answer, gives, asked}
 use Rattle.hbc_header.specs.Record.{legacyOf, modernOf, legacyLarge, modernLarge, overflowed, legacyPlace, modernPlace}
 use Rattle.hbc_header.specs.Header.{sizeOf, headerAt, groundBy, legacyGround, modernGround, groundAt, whereOf, legacyWhere, modernWhere, legacyFound, modernFound, legacyAt, modernAt, functionAt}
 use Rattle.hbc_header_ground.specs.Meets.{overlap, groundMeets, meets}
@@ -98,49 +98,52 @@ where-same a b m ground.None e = refl
 where-same a b m (ground.Inline at) e = refl
 where-same a b m (ground.Large at place) e = rw e
 
-module _ {a b : List ℕ} {low high : ℕ} (v : Same a b low high) (i : ℕ) where
-  -- legacy, by whether the header runs past the end
-  legacy-by : (at : ℕ) (cut : Bool) → ltb (length b) (at + 16) ≡ cut → groundMeets 16 31 low high (legacyGround b at) ≡ false → legacyAt a at i ≡ legacyAt b at i
-  unfolding legacyAt legacyWhere legacyGround groundBy whereOf
-  legacy-by at true c o = rw (v .long, c)
-  legacy-by at false c o =
-      let r = legacyOf 0 (leAt b at 16) in
-      let g = cond (overflowed (r .flags)) (ground.Large at (legacyPlace r)) (ground.Inline at) in
-      let q : groundMeets 16 31 low high g ≡ false = rw c at o in
-      let e : leAt a at 16 ≡ leAt b at 16 = same-num (agrees v at 16 (own-apart 16 31 low high at (legacyPlace r) (overflowed (r .flags)) q)) at 16 (le-refl at) (le-refl (at + 16)) in
-      let h : legacyGround a at ≡ g = rw (v .long, c, e) in
-      let k : legacyGround b at ≡ g = rw c in
-      ap (λ (x : Ground). legacyFound a at i (whereOf a 31 x)) h
-      ∙ ap (legacyFound a at i) (where-same a b 31 g (v .long))
-      ∙ same-found b 16 31 low high (legacyFound a at i) (legacyFound b at i) at (legacyPlace r)
-      (ap (λ (n : ℕ). gives (rec.Legacy (legacyOf i n))) e)
-      (λ w. ap (λ (x : Legacy). gives (rec.Legacy x)) (legacy-large a b (legacyPlace r) i (agrees v (legacyPlace r) 31 w)))
-      (λ k. refl) (overflowed (r .flags)) q
-      ∙ ap (λ (x : Ground). legacyFound b at i (whereOf b 31 x)) (sym k)
+-- a layout by the bytes n of its header, m of a large one, what the header's number says of the flag and the packed place, and what is found: where that
+-- is the same in both files by the header's own bytes, by a large header's, and where it is refused, the function is
+module _ {a b : List ℕ} {low high : ℕ} (v : Same a b low high) (n m at : ℕ) (flag : ℕ → Bool) (place : ℕ → ℕ) (found : List ℕ → Where → Answer Record)
+    (here : leAt a at n ≡ leAt b at n → found a wh.Inline ≡ found b wh.Inline) (there : (p : ℕ) → Agree a b p (p + m) → found a (wh.Large p) ≡ found b (wh.Large p))
+    (nowhere : (k : ℕ) → found a (wh.Refused k) ≡ found b (wh.Refused k)) where
+  abbrev groundOf : List ℕ → Ground
+  groundOf s = groundBy s at n (flag (leAt s at n)) (place (leAt s at n))
 
-  -- modern likewise
-  modern-by : (at : ℕ) (cut : Bool) → ltb (length b) (at + 12) ≡ cut → groundMeets 12 37 low high (modernGround b at) ≡ false → modernAt a at i ≡ modernAt b at i
-  unfolding modernAt modernWhere modernGround groundBy whereOf
-  modern-by at true c o = rw (v .long, c)
-  modern-by at false c o =
-      let r = modernOf 0 (leAt b at 12) in
-      let g = cond (overflowed (r .flags)) (ground.Large at (modernPlace r)) (ground.Inline at) in
-      let q : groundMeets 12 37 low high g ≡ false = rw c at o in
-      let e : leAt a at 12 ≡ leAt b at 12 = same-num (agrees v at 12 (own-apart 12 37 low high at (modernPlace r) (overflowed (r .flags)) q)) at 12 (le-refl at) (le-refl (at + 12)) in
-      let h : modernGround a at ≡ g = rw (v .long, c, e) in
-      let k : modernGround b at ≡ g = rw c in
-      ap (λ (x : Ground). modernFound a at i (whereOf a 37 x)) h
-      ∙ ap (modernFound a at i) (where-same a b 37 g (v .long))
-      ∙ same-found b 12 37 low high (modernFound a at i) (modernFound b at i) at (modernPlace r)
-      (ap (λ (n : ℕ). gives (rec.Modern (modernOf i n))) e)
-      (λ w. ap (λ (x : Modern). gives (rec.Modern x)) (modern-large a b (modernPlace r) i (agrees v (modernPlace r) 37 w)))
-      (λ k. refl) (overflowed (r .flags)) q
-      ∙ ap (λ (x : Ground). modernFound b at i (whereOf b 37 x)) (sym k)
+  -- by whether the header runs past the end
+  same-by : (cut : Bool) → ltb (length b) (at + n) ≡ cut → groundMeets n m low high (groundOf b) ≡ false → found a (whereOf a m (groundOf a)) ≡ found b (whereOf b m (groundOf b))
+  unfolding groundBy whereOf
+  same-by true c o = rw (v .long, c) (nowhere 3)
+  same-by false c o =
+      let p = place (leAt b at n) in
+      let f = flag (leAt b at n) in
+      let g = cond f (ground.Large at p) (ground.Inline at) in
+      let q : groundMeets n m low high g ≡ false = rw c at o in
+      let e : leAt a at n ≡ leAt b at n = same-num (agrees v at n (own-apart n m low high at p f q)) at n (le-refl at) (le-refl (at + n)) in
+      let h : groundOf a ≡ g = rw (v .long, c, e) in
+      let k : groundOf b ≡ g = rw c in
+      ap (λ (x : Ground). found a (whereOf a m x)) h
+      ∙ ap (found a) (where-same a b m g (v .long))
+      ∙ same-found b n m low high (found a) (found b) at p (here e) (λ w. there p (agrees v p m w)) nowhere f q
+      ∙ ap (λ (x : Ground). found b (whereOf b m x)) (sym k)
+
+module _ {a b : List ℕ} {low high : ℕ} (v : Same a b low high) (i : ℕ) where
+  legacy-same : (at : ℕ) → groundMeets 16 31 low high (legacyGround b at) ≡ false → legacyAt a at i ≡ legacyAt b at i
+  unfolding legacyAt legacyWhere legacyGround
+  legacy-same at o =
+      same-by v 16 31 at (λ n. overflowed (legacyOf 0 n .flags)) (λ n. legacyPlace (legacyOf 0 n)) (λ s. legacyFound s at i)
+      (ap (λ (n : ℕ). gives (rec.Legacy (legacyOf i n))))
+      (λ p w. ap (λ (x : Legacy). gives (rec.Legacy x)) (legacy-large a b p i w))
+      (λ k. refl) (ltb (length b) (at + 16)) refl o
+
+  modern-same : (at : ℕ) → groundMeets 12 37 low high (modernGround b at) ≡ false → modernAt a at i ≡ modernAt b at i
+  unfolding modernAt modernWhere modernGround
+  modern-same at o =
+      same-by v 12 37 at (λ n. overflowed (modernOf 0 n .flags)) (λ n. modernPlace (modernOf 0 n)) (λ s. modernFound s at i)
+      (ap (λ (n : ℕ). gives (rec.Modern (modernOf i n))))
+      (λ p w. ap (λ (x : Modern). gives (rec.Modern x)) (modern-large a b p i w))
+      (λ k. refl) (ltb (length b) (at + 12)) refl o
 
   pub function-same : (layout : Layout) (start : ℕ) → meets b layout start low high i ≡ false → functionAt a layout start i ≡ functionAt b layout start i
   unfolding meets groundAt functionAt
-  function-same lay.Legacy16 start m = legacy-by (start + i * 16) (ltb (length b) (start + i * 16 + 16)) refl m
-  function-same lay.Modern12 start m = modern-by (start + i * 12) (ltb (length b) (start + i * 12 + 12)) refl m
+  function-same lay.Legacy16 start m = legacy-same (start + i * 16) m
+  function-same lay.Modern12 start m = modern-same (start + i * 12) m
 
 -- ---- a function that is read has its header in the file
 

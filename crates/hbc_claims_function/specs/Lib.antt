@@ -3,6 +3,7 @@ pub mod Function
 pub mod Words
 pub mod Scans
 pub mod Accepted
+pub mod Meeting
 pub mod Tables
 pub mod Demand3
 pub mod Packed

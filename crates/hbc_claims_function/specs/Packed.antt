@@ -1,9 +1,12 @@
 -- The records that the worked cases speak of, and two things that a reader of headers may not do.
-use Prim.Native.Nat.{ℕ, _+_, _*_}
+use Prim.Native.Nat.{ℕ, _+_, _*_, _%_, _^_, _≤_}
 use mathlib.Core.Path.{_≡_, refl}
 use mathlib.Core.List.{List, [], _∷_, _++_}
+use mathlib.Core.Bool.{true}
 use native.Mathlib.Omega.{arith}
-use lib.ListN.{replicate}
+use borrow.Author.Tests.{le-ltb}
+use lib.ListN.{length, replicate}
+use lib.Bits.{bitOr}
 use Rattle.hbc_bits.specs.Bits.{leAt, field}
 use Rattle.hbc_header.specs.declared.Layout.the-variants.{Legacy16, Modern12}
 use Rattle.hbc_header.specs.declared.Legacy.{Legacy}
@@ -24,6 +27,29 @@ legacyZeros flags = record { id = 0; offset = 0; «param_count» = 0; size = 0; 
 
 abbrev pub modernZeros : ℕ → ℕ → Modern
 modernZeros flags info = record { id = 0; offset = 0; «param_count» = 0; «loop_depth» = 0; size = 0; name = 0; «number_reg» = 0; «non_ptr_reg» = 0; «frame_size» = 0; «read_cache» = 0; «write_cache» = 0; «new_object» = 0; «private_name» = 0; flags = flags; «info_offset» = info }
+
+-- a packed place is or-ed from its two fields
+pub or-ed : (r : Legacy) (q : Modern) → (legacyPlace r ≡ bitOr (r .«info_offset» * 65536) (r .offset)) × (modernPlace q ≡ bitOr (q .name * 2 ^ 24) (q .offset % 2 ^ 24))
+unfolding legacyPlace modernPlace
+or-ed r q = (refl, refl)
+
+-- a flagged header that fits, with a large one at its packed place that fits, is read as that, whatever the large one's own flags
+module _ (s : List ℕ) (at i : ℕ) where
+  pub legacy-large : (r : Legacy) → r ≡ legacyOf 0 (leAt s at 16) → at + 16 ≤ length s → overflowed (r .flags) ≡ true → legacyPlace r + 31 ≤ length s
+      → legacyAt s at i ≡ gives (rec.Legacy (legacyLarge s (legacyPlace r) i))
+  unfolding legacyAt legacyWhere legacyGround groundBy whereOf
+  legacy-large r e h f k =
+      let x : overflowed (legacyOf 0 (leAt s at 16) .flags) ≡ true = rw e at f in
+      let y : legacyPlace (legacyOf 0 (leAt s at 16)) + 31 ≤ length s = rw e at k in
+      rw e (simp (le-ltb _ _ h, x, le-ltb (length s) (legacyPlace (legacyOf 0 (leAt s at 16))) (omega arith), le-ltb _ _ y))
+
+  pub modern-large : (r : Modern) → r ≡ modernOf 0 (leAt s at 12) → at + 12 ≤ length s → overflowed (r .flags) ≡ true → modernPlace r + 37 ≤ length s
+      → modernAt s at i ≡ gives (rec.Modern (modernLarge s (modernPlace r) i))
+  unfolding modernAt modernWhere modernGround groundBy whereOf
+  modern-large r e h f k =
+      let x : overflowed (modernOf 0 (leAt s at 12) .flags) ≡ true = rw e at f in
+      let y : modernPlace (modernOf 0 (leAt s at 12)) + 37 ≤ length s = rw e at k in
+      rw e (simp (le-ltb _ _ h, x, le-ltb (length s) (modernPlace (modernOf 0 (leAt s at 12))) (omega arith), le-ltb _ _ y))
 
 -- on P3's numbers the packed place is not the sum of its parts
 pub not-added : legacyPlace (legacy 1 65552) ≡ 1 * 65536 + 65552 → ⊥

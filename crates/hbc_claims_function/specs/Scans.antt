@@ -12,7 +12,7 @@ use Rattle.hbc_io.specs.declared.Refusal.{Refusal}
 use Rattle.hbc_header.specs.declared.Layout.{Layout}
 use Rattle.hbc_header.specs.declared.Record.{Record}
 use Rattle.hbc_header.specs.Answer.{Answer, gives, refuses, asked}
-use Rattle.hbc_header.specs.Header.{sizeOf, headerAt, functionAt}
+use Rattle.hbc_header.specs.Header.{sizeOf, functionAt}
 use Rattle.hbc_function.specs.Table.{counted, step, scan, all}
 use Rattle.hbc_function.specs.Refresh.{held}
 use Rattle.hbc_function.specs.Laws.{size-pos}
@@ -52,6 +52,16 @@ step-count true n k a e = counted-read n k a e .1
 unfoldable pub countOf : (ℕ → Bool) → ℕ → ℕ
 countOf chosen zero = 0
 countOf chosen (suc n) = cond (chosen n) (countOf chosen n + 1) (countOf chosen n)
+
+count-step : (b : Bool) (m n : ℕ) → m ≤ n → cond b (m + 1) m ≤ suc n
+count-step true m n h = omega arith
+count-step false m n h = omega arith
+
+-- which is at most n
+pub count-le : (chosen : ℕ → Bool) (n : ℕ) → countOf chosen n ≤ n
+unfolding countOf
+count-le chosen zero = omega arith
+count-le chosen (suc n) = count-step (chosen n) (countOf chosen n) n (count-le chosen n)
 
 module _ (chosen : ℕ → Bool) (f : ℕ → Answer Record) where
   scan-before : (n k : ℕ) → scan chosen f (suc n) ≡ gives k → (m : ℕ) × (scan chosen f n ≡ gives m)

@@ -8,14 +8,14 @@ use lib.ListN.{length, getD}
 use Rattle.hbc_header.specs.declared.Layout.{Layout}
 use Rattle.hbc_header.specs.declared.Record.{Record}
 use Rattle.hbc_header.specs.declared.Reading.the-variants as reading
-use Rattle.hbc_header.specs.Answer.{Answer, gives, asked}
+use Rattle.hbc_header.specs.Answer.{Answer, gives}
 use Rattle.hbc_header.specs.Header.{functionAt}
 use Rattle.hbc_header.specs.Row.{width, rowWords}
 use Rattle.hbc_header_ground.specs.Meets.{meets}
 use Rattle.hbc_function.specs.declared.Refreshed.the-variants as refreshed
 use Rattle.hbc_function.specs.Table.{putRows, all, scan, ReadFunctions}
 use Rattle.hbc_function.specs.Refresh.{RefreshFunctions}
-use Rattle.hbc_claims_function.specs.Words.{wordOf, wordAfter, after-put, after-not, after-behind, rows-long, rows-word}
+use Rattle.hbc_claims_function.specs.Words.{wordOf, after-put, after-not, after-behind, rows-long, rows-word}
 use Rattle.hbc_claims_function.specs.Scans.{a-record, scan-each, scan-counts, countOf}
 use Rattle.hbc_claims_function.specs.Accepted.{accepted, refreshable, was-read, was-done}
 

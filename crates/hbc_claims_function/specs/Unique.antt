@@ -1,13 +1,11 @@
 -- Each public call's contract, as the checker has it, leaves one answer, and one value for every lent word.
 use mathlib.Core.Path.{_≡_, refl, sym}
-use Prim.Native.Nat.{ℕ}
-use native.Mathlib.Omega.{arith}
 use denote.Ref.{now}
 use Rattle.hbc_header.specs.declared.Function.{Function}
 use Rattle.hbc_header.specs.declared.Function.the-variants as fun
 use Rattle.hbc_header.specs.declared.Reading.{Reading}
 use Rattle.hbc_header.specs.declared.Reading.the-variants as reading
-use Rattle.hbc_header.specs.Answer.{Answer, gives, refuses, ofFunction, ofReading}
+use Rattle.hbc_header.specs.Answer.{ofFunction, ofReading}
 use Rattle.hbc_function.specs.declared.Refreshed.{Refreshed}
 use Rattle.hbc_function.specs.declared.Refreshed.the-variants as refreshed
 use Rattle.hbc_function.specs.Refresh.{ofRefreshed}

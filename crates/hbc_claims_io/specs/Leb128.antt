@@ -1,6 +1,6 @@
 -- When the answer to a LEB128 number is the number that DWARF 5, section 7.6, has for its bytes: exactly when that fits 64 bits.
 use Prim.Native.Nat.{ℕ, suc, _-_, _*_, _%_, _^_, _≤_, _<_}
-use mathlib.Core.Path.{_≡_, refl, sym, ap, _∙_, subst}
+use mathlib.Core.Path.{_≡_, ap, subst}
 use mathlib.Core.List.{List}
 use native.Mathlib.Omega.{arith}
 use native.Mathlib.Nat.{mod-eq-of-lt, mod-lt}
@@ -23,8 +23,8 @@ Fits64 (negsuc n) = n < 2 ^ 63
 pub unsigned-kept : (bs : List ℕ) → dwarfUnsigned bs < 2 ^ 64 → unsignedOf bs ≡ dwarfUnsigned bs
 unsigned-kept bs h = mod-eq-of-lt h
 
-pub unsigned-lost : (bs : List ℕ) → 2 ^ 64 ≤ dwarfUnsigned bs → unsignedOf bs ≡ dwarfUnsigned bs → ⊥
-unsigned-lost bs h e = omega (arith, mod-lt (groups bs) {m = 2 ^ 64} (omega arith))
+pub unsigned-only : (bs : List ℕ) → unsignedOf bs ≡ dwarfUnsigned bs → dwarfUnsigned bs < 2 ^ 64
+unsigned-only bs e = omega (arith, mod-lt (groups bs) {m = 2 ^ 64} (omega arith))
 
 -- ---- signed
 
@@ -50,8 +50,8 @@ fits-low (negsuc n) = fits-twos (2 ^ 64 - suc (n % 2 ^ 64)) (omega arith)
 pub signed-kept : (bs : List ℕ) → Fits64 (dwarfSigned bs) → signedOf bs ≡ dwarfSigned bs
 signed-kept bs h = keeps (dwarfSigned bs) h
 
-pub signed-lost : (bs : List ℕ) → (Fits64 (dwarfSigned bs) → ⊥) → signedOf bs ≡ dwarfSigned bs → ⊥
-signed-lost bs h e = h (subst Fits64 e (fits-low (dwarfSigned bs)))
+pub signed-only : (bs : List ℕ) → signedOf bs ≡ dwarfSigned bs → Fits64 (dwarfSigned bs)
+signed-only bs e = subst Fits64 e (fits-low (dwarfSigned bs))
 
 -- ---- nine bytes or fewer lose nothing
 

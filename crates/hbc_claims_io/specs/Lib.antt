@@ -1,2 +1,4 @@
 pub mod Leb128
+pub mod Refused
 pub mod Unique
+pub mod Reader

@@ -1,5 +1,4 @@
 -- Each public call's contract, as the checker has it, leaves one answer: two outcomes that both meet it are equal.
-use mathlib.Core.Path.{_≡_}
 use denote.Ref.{now}
 use Rattle.hbc_bits.proofs.bits.Reads as of-bits
 use Rattle.hbc_io.proofs.first.Reads as of-first
@@ -27,7 +26,7 @@ use Rattle.hbc_io_text.proofs.read_cstring.Reads as of-read-cstring
 use Rattle.hbc_io_text.proofs.read_length_prefixed_string.Reads as of-read-length-prefixed-string
 use Rattle.hbc_io.proofs.Alone.{oneU8, oneU16, oneU32, oneU64, oneI8, oneI32, oneF64, oneSpan, oneMoved}
 use Rattle.hbc_io_leb.proofs.Alone.{oneUleb, oneSleb}
-use Rattle.hbc_claims_law.specs.Law.{One, same}
+use Rattle.hbc_claims_law.specs.Law.{One, Seen, same}
 
 pub data Call : Type 0 where
   bits : Call
@@ -71,7 +70,7 @@ Determined read_f64 = One of-read-f64.Learnt
 Determined seek = One of-seek.Learnt
 Determined align = One of-align.Learnt
 Determined read_bytes = One of-read-bytes.Learnt
-Determined part = (k : _) (a : _) (r q : _) (s u : _) → of-part.Learnt k a r s → of-part.Learnt k a q u → now r ≡ now q
+Determined part = Seen of-part.Learnt (λ r. now r)
 Determined read_uleb128 = One of-read-uleb128.Learnt
 Determined read_sleb128 = One of-read-sleb128.Learnt
 Determined read_cstring = One of-read-cstring.Learnt

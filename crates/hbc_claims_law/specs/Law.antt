@@ -3,25 +3,32 @@
 use mathlib.Core.Path.{_≡_, sym, _∙_}
 use mathlib.Core.List.{List, [], _∷_}
 
--- one answer
-abbrev pub One : {K A R E : Type 0} → (K → A → R → E → Type 0) → Type 0
-One {K} {A} {R} {E} L = (k : K) (a : A) (r q : R) (s u : E) → L k a r s → L k a q u → r ≡ q
-
--- one answer, seen through f: a part that is handed back, by its bytes
-abbrev pub Seen : {K A R E : Type 0} → (K → A → R → E → Type 0) → {T : Type 0} → (R → T) → Type 0
-Seen {K} {A} {R} {E} L f = (k : K) (a : A) (r q : R) (s u : E) → L k a r s → L k a q u → f r ≡ f q
-
--- one value for the words that were lent at a place
-abbrev pub Words : {K A R E : Type 0} → (K → A → R → E → Type 0) → {W : Type 0} → (E → W) → Type 0
-Words {K} {A} {R} {E} L words = (k : K) (a : A) (r q : R) (s u : E) → L k a r s → L k a q u → words s ≡ words u
-
--- both
-abbrev pub Both : {K A R E : Type 0} → (K → A → R → E → Type 0) → {W : Type 0} → (E → W) → Type 0
-Both {K} {A} {R} {E} L words = (k : K) (a : A) (r q : R) (s u : E) → L k a r s → L k a q u → (r ≡ q) × (words s ≡ words u)
-
 -- one value for whatever f takes of the answer and of what is left
 abbrev pub Part : {K A R E : Type 0} → (K → A → R → E → Type 0) → {T : Type 0} → (R → E → T) → Type 0
 Part {K} {A} {R} {E} L f = (k : K) (a : A) (r q : R) (s u : E) → L k a r s → L k a q u → f r s ≡ f q u
+
+-- one answer
+abbrev pub One : {K A R E : Type 0} → (K → A → R → E → Type 0) → Type 0
+One L = Part L (λ r s. r)
+
+-- one answer, seen through f: a part that is handed back, by its bytes
+abbrev pub Seen : {K A R E : Type 0} → (K → A → R → E → Type 0) → {T : Type 0} → (R → T) → Type 0
+Seen L f = Part L (λ r s. f r)
+
+-- one value for the words that were lent at a place
+abbrev pub Words : {K A R E : Type 0} → (K → A → R → E → Type 0) → {W : Type 0} → (E → W) → Type 0
+Words L words = Part L (λ r s. words s)
+
+-- one answer and one value for what was lent at a place, at two, at three
+abbrev pub Both : {K A R E : Type 0} → (K → A → R → E → Type 0) → {W : Type 0} → (E → W) → Type 0
+Both {K} {A} {R} {E} L w = (k : K) (a : A) (r q : R) (s u : E) → L k a r s → L k a q u → (r ≡ q) × (w s ≡ w u)
+
+abbrev pub Both2 : {K A R E : Type 0} → (K → A → R → E → Type 0) → {W X : Type 0} → (E → W) → (E → X) → Type 0
+Both2 {K} {A} {R} {E} L w x = (k : K) (a : A) (r q : R) (s u : E) → L k a r s → L k a q u → (r ≡ q) × (w s ≡ w u) × (x s ≡ x u)
+
+abbrev pub Both3 : {K A R E : Type 0} → (K → A → R → E → Type 0) → {W X Y : Type 0} → (E → W) → (E → X) → (E → Y) → Type 0
+Both3 {K} {A} {R} {E} L w x y =
+    (k : K) (a : A) (r q : R) (s u : E) → L k a r s → L k a q u → (r ≡ q) × (w s ≡ w u) × (x s ≡ x u) × (y s ≡ y u)
 
 -- the law behind them all: what equals one thing is one thing
 pub same : {A : Type 0} {x r q : A} → r ≡ x → q ≡ x → r ≡ q

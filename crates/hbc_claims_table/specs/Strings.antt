@@ -19,13 +19,10 @@ use Rattle.hbc_table_strings.specs.declared.Decoded.{Decoded}
 use Rattle.hbc_table_strings.specs.declared.Decoded.the-variants.{Rows, Refused}
 use Rattle.hbc_table_strings.specs.Strings.{lacksPair, onward, rowFor, rowWith, rowOf, scan, lesser, decodeAnswer, DecodeStrings}
 use Rattle.hbc_table_bytes.specs.StringBytes.{spanAt, stringBytes}
+use Rattle.hbc_claims_law.specs.Tests.{past}
 
 not-refused : {k : Refusal} {n : ℕ} → Refused k ≡ Rows n → ⊥
 not-refused e = let z : _≡_ {A = ℕ} 0 1 = cc in omega arith
-
-past : (b : Bool) (k : Refusal) (o : Decoded) (n : ℕ) → cond b (Refused k) o ≡ Rows n → (b ≡ false) × (o ≡ Rows n)
-past true k o n e = absurd (not-refused e)
-past false k o n e = (refl, e)
 
 onward-rows : (d : Decoded) (b : Bool) (i n : ℕ) → onward d b i ≡ Rows n → n ≡ suc i
 onward-rows (Rows k) true i n e = absurd (not-refused e)
@@ -45,8 +42,8 @@ record Accepted (count : ℕ) (small before : List ℕ) (n : ℕ) : Type 0 where
 accept : (count : ℕ) (small overflow storage before : List ℕ) (n : ℕ) → decodeAnswer count small overflow storage before ≡ Rows n → Accepted count small before n
 unfolding decodeAnswer
 accept count small overflow storage before n e =
-    let p = past (ltb limit (length storage)) _ _ n e in
-    let q = past (ltb (rows before) (lesser count (length small))) _ _ n (p .1) in
+    let p = past not-refused (ltb limit (length storage)) e in
+    let q = past not-refused (ltb (rows before) (lesser count (length small))) (p .1) in
     let z : n ≡ lesser count (length small) = scan-rows small (length overflow / 2) (lesser count (length small)) n (q .1) in
     record { all = z; room = rw z (ltb-false (rows before) (lesser count (length small)) (q .0)) }
 

@@ -2,13 +2,12 @@
 use Prim.Native.Nat.{ℕ, _+_, _*_, _≤_, _<_}
 use mathlib.Core.Path.{_≡_, refl}
 use mathlib.Core.List.{List}
-use mathlib.Core.Bool.{Bool, true, false, cond}
 use native.Mathlib.Omega.{arith}
 use lib.ListN.{length}
 use lib.Dec.{ltb}
 use borrow.Author.Tests.{ltb-false}
 use Rattle.hbc_bits.specs.Bits.{leAt}
-use Rattle.hbc_io.specs.Outcome.{Outcome, got, refused, cursorAt, limit, left}
+use Rattle.hbc_io.specs.Outcome.{got, refused, cursorAt, limit, left}
 use Rattle.hbc_io.specs.declared.Cursor.{Cursor}
 use Rattle.hbc_io.specs.declared.Refusal.{Refusal}
 use Rattle.hbc_io.specs.declared.Moved.the-variants.{To, Refused}
@@ -17,6 +16,7 @@ use Rattle.hbc_rows.specs.Rows.{entryAt, filled}
 use Rattle.hbc_rows.specs.RowsAt.{filled-at, filled-past}
 use Rattle.hbc_table.specs.Table.{wordsFrom, wordsAt, ReadTable}
 use Rattle.hbc_table.specs.Laws.{table-got, table-refused}
+use Rattle.hbc_claims_law.specs.Tests.{either}
 
 -- an accepted read of n words
 record Got (s : List ℕ) (c : Cursor) (n : ℕ) (before after : List ℕ) (next : Cursor) : Type 0 where
@@ -58,19 +58,15 @@ module _ (width : ℕ) (s : List ℕ) (c : Cursor) (count : ℕ) (before after :
   refused-table k stays v = table-refused v refl .1
 
 -- and the cursor
-stays-in : (b : Bool) (k : Refusal) (c : Cursor) (o : Outcome (List ℕ)) {r : Refusal} {n : Cursor} → cond b (refused k c) o ≡ refused r n → (o ≡ refused r n → n ≡ c) → n ≡ c
-stays-in true k c o e h = cc
-stays-in false k c o e h = h e
-
-refused-at : (bytes : ℕ) (s : List ℕ) (c : Cursor) (n : ℕ) (before : List ℕ) (r : Refusal) (stays : Cursor) → wordsAt bytes s c n before ≡ refused r stays → stays ≡ c
+pub words-left : (bytes : ℕ) (s : List ℕ) (c : Cursor) (n : ℕ) (before : List ℕ) (r : Refusal) (stays : Cursor) → wordsAt bytes s c n before ≡ refused r stays → stays ≡ c
 unfolding wordsAt
-refused-at bytes s c n before r stays e =
-    stays-in (ltb limit (length s)) _ c _ e (λ e.
-    stays-in (ltb (length s) (c .at)) _ c _ e (λ e.
-    stays-in (ltb (length before) n) _ c _ e (λ e.
-    stays-in (ltb (left s c) (4 * n)) _ c _ e (λ e. absurd (not-both refl e)))))
+words-left bytes s c n before r stays e =
+    either (ltb limit (length s)) e (λ p. cc) (λ e.
+    either (ltb (length s) (c .at)) e (λ p. cc) (λ e.
+    either (ltb (length before) n) e (λ p. cc) (λ e.
+    either (ltb (left s c) (4 * n)) e (λ p. cc) (λ e. absurd (not-both refl e)))))
 
 pub refused-cursor : (width : ℕ) (s : List ℕ) (c : Cursor) (count : ℕ) (before after : List ℕ) (k : Refusal) (stays : Cursor)
     → ReadTable width s c count before (Refused k stays) after → stays ≡ c
 refused-cursor width s c count before after k stays v =
-    refused-at (4 * width) s c (width * count) before k stays (table-refused v refl .0)
+    words-left (4 * width) s c (width * count) before k stays (table-refused v refl .0)

@@ -1,10 +1,6 @@
 -- Each public call's contract, as the checker has it, leaves one answer, and one value for every lent word.
-use mathlib.Core.Path.{_≡_, refl}
 use denote.Ref.{now}
-use Rattle.hbc_io.specs.Answers.{ofMoved}
-use Rattle.hbc_io.specs.declared.Moved.{Moved}
-use Rattle.hbc_io.specs.declared.Moved.the-variants.{To, Refused}
-use Rattle.hbc_io.proofs.Reading.{not-both}
+use Rattle.hbc_io.proofs.Alone.{oneMoved}
 use Rattle.hbc_rows.proofs.word_of.Reads as of-word-of
 use Rattle.hbc_rows.proofs.field_of.Reads as of-field-of
 use Rattle.hbc_rows.proofs.put_row.Reads as of-put-row
@@ -13,14 +9,7 @@ use Rattle.hbc_table.proofs.read_pair_table.Reads as of-read-pair-table
 use Rattle.hbc_table_strings.proofs.decode_strings.Reads as of-decode-strings
 use Rattle.hbc_table_bytes.proofs.string_span.Reads as of-string-span
 use Rattle.hbc_table_bytes.proofs.string_bytes.Reads as of-string-bytes
-use Rattle.hbc_claims_law.specs.Law.{Seen, Words, Both, same}
-
--- what a move is told by is the move
-one-move : (r q : Moved) → ofMoved r ≡ ofMoved q → r ≡ q
-one-move (To n) (To m) e = let z : n ≡ m = cc in rw z
-one-move (To n) (Refused k m) e = absurd (not-both refl e)
-one-move (Refused k n) (To m) e = absurd (not-both e refl)
-one-move (Refused k n) (Refused l m) e = let z : n ≡ m = cc in let y : k ≡ l = cc in rw (z, y)
+use Rattle.hbc_claims_law.specs.Law.{One, Seen, Words, Both, same}
 
 pub data Call : Type 0 where
   word_of : Call
@@ -33,13 +22,13 @@ pub data Call : Type 0 where
   string_bytes : Call
 
 abbrev pub Determined : Call → Type 0
-Determined word_of = Seen of-word-of.Learnt (λ r. r)
-Determined field_of = Seen of-field-of.Learnt (λ r. r)
+Determined word_of = One of-word-of.Learnt
+Determined field_of = One of-field-of.Learnt
 Determined put_row = Words of-put-row.Learnt (λ s. now (s .0))
 Determined read_u32_table = Both of-read-u32-table.Learnt (λ s. now (s .1 .1 .1 .0))
 Determined read_pair_table = Both of-read-pair-table.Learnt (λ s. now (s .1 .1 .1 .0))
 Determined decode_strings = Both of-decode-strings.Learnt (λ s. now (s .1 .1 .1 .1 .1 .0))
-Determined string_span = Seen of-string-span.Learnt (λ r. r)
+Determined string_span = One of-string-span.Learnt
 -- the bytes of the part
 Determined string_bytes = Seen of-string-bytes.Learnt (λ r. now r)
 
@@ -47,8 +36,8 @@ pub determined : (c : Call) → Determined c
 determined word_of = λ k a r q s u. same
 determined field_of = λ k a r q s u. same
 determined put_row = λ k a r q s u. same
-determined read_u32_table = λ k a r q s u e f. (one-move r q (same (e .says) (f .says)), same (e .leaves) (f .leaves))
-determined read_pair_table = λ k a r q s u e f. (one-move r q (same (e .says) (f .says)), same (e .leaves) (f .leaves))
+determined read_u32_table = λ k a r q s u e f. (oneMoved r q (same (e .says) (f .says)), same (e .leaves) (f .leaves))
+determined read_pair_table = λ k a r q s u e f. (oneMoved r q (same (e .says) (f .says)), same (e .leaves) (f .leaves))
 determined decode_strings = λ k a r q s u e f. (same (e .says) (f .says), same (e .leaves) (f .leaves))
 determined string_span = λ k a r q s u. same
 determined string_bytes = λ k a r q s u. same

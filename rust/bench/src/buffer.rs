@@ -1,7 +1,7 @@
 //! The literals: a whole series at once.
 
+use bisquepond::sys::*;
 use harness::Random;
-use hbc_sys::*;
 use published::file::parser::buffer::read_buffer_series;
 use published::file::parser::parsing;
 use published::file::structure::{LiteralValue, StringTableEntry};

@@ -1,7 +1,7 @@
 //! The debug section: strings, scopes with their names, callees.
 
+use bisquepond::sys::*;
 use harness::Random;
-use hbc_sys::*;
 use published::debug::DebugInfo;
 
 use crate::table::Bench;

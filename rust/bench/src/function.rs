@@ -1,7 +1,7 @@
 //! The function tables: the whole table at once, and what a small edit costs.
 
+use bisquepond::sys::*;
 use harness::Random;
-use hbc_sys::*;
 use published::file::parser::function::parse_function_headers;
 use published::format::{empty_header, FunctionHeaderLayout, FLAG_OVERFLOWED};
 use published::io::ByteReader;

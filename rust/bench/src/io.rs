@@ -2,8 +2,8 @@
 
 use std::hint::black_box;
 
+use bisquepond::sys::*;
 use harness::Random;
-use hbc_sys::*;
 use published::error::Result;
 use published::io::ByteReader;
 

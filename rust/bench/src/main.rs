@@ -2,24 +2,24 @@
 
 use std::process::ExitCode;
 
-#[cfg(all(published, archive))]
+#[cfg(published)]
 mod buffer;
-#[cfg(all(published, archive))]
+#[cfg(published)]
 mod debug;
-#[cfg(all(published, archive))]
+#[cfg(published)]
 mod function;
-#[cfg(all(published, archive))]
+#[cfg(published)]
 mod io;
-#[cfg(all(published, archive))]
+#[cfg(published)]
 mod parsing;
-#[cfg(all(published, archive))]
+#[cfg(published)]
 mod strings;
-#[cfg(all(published, archive))]
+#[cfg(published)]
 mod table;
-#[cfg(all(published, archive))]
+#[cfg(published)]
 mod whole;
 
-#[cfg(all(published, archive))]
+#[cfg(published)]
 fn main() -> ExitCode {
     table::main(&[
         ("io", io::rows),
@@ -31,11 +31,10 @@ fn main() -> ExitCode {
     ])
 }
 
-#[cfg(not(all(published, archive)))]
+#[cfg(not(published))]
 fn main() -> ExitCode {
     println!(
-        "benchmark skipped: it needs both {} and the published Rust in {}",
-        hbc_sys::ARCHIVE,
+        "benchmark skipped: the published Rust is not in {} (HERMES_DECOMP_SRC names its folder)",
         published::FOLDER
     );
     ExitCode::SUCCESS

@@ -1,7 +1,7 @@
 //! Handlers and trailing sections.
 
+use bisquepond::sys::*;
 use harness::Random;
-use hbc_sys::*;
 use published::file::parser::parsing;
 use published::format::{
     empty_header, FunctionHeader, FunctionHeaderLayout, LegacyFunctionHeader,

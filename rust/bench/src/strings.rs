@@ -1,7 +1,7 @@
 //! The string tables: a whole table of words or pairs at once, and all strings at once.
 
+use bisquepond::sys::*;
 use harness::Random;
-use hbc_sys::*;
 use published::file::parser::table::{decode_string_table, parse_pair_table, parse_u32_vec};
 use published::file::structure::{StringKindEntry, StringKindType, StringTableEntry};
 use published::io::ByteReader;

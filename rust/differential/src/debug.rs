@@ -4,7 +4,7 @@ mod groups;
 
 pub use groups::{compare, record};
 
-use hbc_sys::hbc_read_debug;
+use bisquepond::sys::hbc_read_debug;
 use published::debug::DebugInfo;
 use published::io::ByteReader;
 

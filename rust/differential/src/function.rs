@@ -5,7 +5,7 @@ pub mod record;
 
 pub use groups::compare;
 
-use hbc_sys::*;
+use bisquepond::sys::*;
 use published::error::Error;
 use published::file::parser::function::parse_function_headers;
 use published::format::{empty_header, FunctionHeader, FunctionHeaderLayout, FLAG_OVERFLOWED};

@@ -5,7 +5,7 @@ pub mod record;
 
 pub use groups::compare;
 
-use hbc_sys::*;
+use bisquepond::sys::*;
 use published::error::{Error, Result as Published};
 use published::io::ByteReader;
 

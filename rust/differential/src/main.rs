@@ -3,32 +3,32 @@
 
 use std::process::ExitCode;
 
-#[cfg(all(published, archive))]
+#[cfg(published)]
 mod buffer;
-#[cfg(all(published, archive))]
+#[cfg(published)]
 mod debug;
-#[cfg(all(published, archive))]
+#[cfg(published)]
 mod function;
-#[cfg(all(published, archive))]
+#[cfg(published)]
 mod io;
-#[cfg(all(published, archive))]
+#[cfg(published)]
 mod lent;
-#[cfg(all(published, archive))]
+#[cfg(published)]
 mod parsing;
-#[cfg(all(published, archive))]
+#[cfg(published)]
 mod record;
-#[cfg(all(published, archive))]
+#[cfg(published)]
 mod run;
-#[cfg(all(published, archive))]
+#[cfg(published)]
 mod search;
-#[cfg(all(published, archive))]
+#[cfg(published)]
 mod shown;
-#[cfg(all(published, archive))]
+#[cfg(published)]
 mod table;
-#[cfg(all(published, archive))]
+#[cfg(published)]
 mod words;
 
-#[cfg(all(published, archive))]
+#[cfg(published)]
 fn main() -> ExitCode {
     use run::Layer;
     run::main(&[
@@ -69,15 +69,6 @@ fn main() -> ExitCode {
             replay: debug::replay,
         },
     ])
-}
-
-#[cfg(all(published, not(archive)))]
-fn main() -> ExitCode {
-    eprintln!(
-        "comparison not run: no {} (make it with `rt staticlib hbc_c`, or name its folder in HBC_STATICLIB)",
-        hbc_sys::ARCHIVE
-    );
-    ExitCode::from(2)
 }
 
 #[cfg(not(published))]

@@ -1,7 +1,7 @@
 //! Tables that are lent to a call: every word before and after it, in numbers and in the words of a replay.
 
+use bisquepond::sys::{number, place};
 use harness::Random;
-use hbc_sys::{number, place};
 
 use crate::io::{hex, unhex};
 

@@ -1,6 +1,6 @@
 //! One literal.
 
-use hbc_sys::*;
+use bisquepond::sys::*;
 use published::file::parser::buffer::literal;
 use published::io::ByteReader;
 

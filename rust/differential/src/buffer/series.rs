@@ -1,6 +1,6 @@
 //! A series of literals, read from one buffer, and as an object's keys or values.
 
-use hbc_sys::*;
+use bisquepond::sys::*;
 use published::error::Result as Published;
 use published::file::parser::buffer::read_buffer_series;
 use published::file::structure::LiteralValue;

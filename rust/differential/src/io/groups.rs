@@ -1,7 +1,7 @@
 //! The groups of inputs on which the two sides of the cursor layer are compared.
 
+use bisquepond::sys::{hbc_bits, hbc_remaining};
 use harness::Random;
-use hbc_sys::{hbc_bits, hbc_remaining};
 use published::io::ByteReader;
 
 use super::Op::*;

@@ -1,7 +1,7 @@
 //! The exception handlers of a table of functions.
 
+use bisquepond::sys::hbc_read_handlers;
 use harness::Random;
-use hbc_sys::hbc_read_handlers;
 use published::file::parser::parsing;
 use published::format::{FunctionHeader, LegacyFunctionHeader};
 

@@ -1,7 +1,7 @@
 //! The sections that follow the literal buffers.
 
+use bisquepond::sys::{hbc_read_pair_table, hbc_trailing_sections, number};
 use harness::Random;
-use hbc_sys::{hbc_read_pair_table, hbc_trailing_sections, number};
 use published::error::Error;
 use published::file::parser::parsing;
 use published::format::{empty_header, FunctionHeaderLayout};

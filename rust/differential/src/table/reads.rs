@@ -1,6 +1,6 @@
 //! Tables of words and of pairs.
 
-use hbc_sys::*;
+use bisquepond::sys::*;
 use published::error::{Error, Result as Published};
 use published::file::parser::table::*;
 use published::file::structure::StringKindType;

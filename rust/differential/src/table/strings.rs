@@ -1,6 +1,6 @@
 //! Decoded strings, and one string's bytes.
 
-use hbc_sys::*;
+use bisquepond::sys::*;
 use published::error::{Error, Result as Published};
 use published::file::parser::table::{decode_string_table, parse_string_kinds};
 use published::file::structure::{StringKindEntry, StringTableEntry};
@@ -143,14 +143,14 @@ impl Case<'_> {
         let mut rows = Lent::new(self.lent);
         let code = self.call(&mut rows);
         let same = |number, place, words: &[u32]| {
-            let given = (hbc_sys::number(code), hbc_sys::place(code));
+            let given = (bisquepond::sys::number(code), bisquepond::sys::place(code));
             if given != (number, place) {
                 return Err(self.difference(number, place, said_rows(given.0, given.1)));
             }
             let held = rows.holds(words);
             held.map_err(|wrong| self.difference(number, place, wrong))
         };
-        let (words, texts) = match self.right(hbc_sys::place(code)) {
+        let (words, texts) = match self.right(bisquepond::sys::place(code)) {
             Ok(right) => right,
             Err((number, place)) => return same(number, place, &[]),
         };

@@ -110,6 +110,11 @@ pub fn many(run: &mut Run) -> Compared {
         sizes(300, 10, 700, Order::Falling),
         sizes(300, 10, 700, Order::Random),
         sizes(300, 10, 700, Order::LastFirst),
+        // one pass keeps 65,536 addresses: as many, one more, and some passes
+        sizes(300, 0, 65_536, Order::Falling),
+        sizes(300, 0, 65_537, Order::LastFirst),
+        sizes(300, 0, 140_000, Order::Random),
+        sizes(300, 0, 140_000, Order::Equal),
     ];
     for sizes in &some {
         lent(run, &mut random, sizes)?;
@@ -117,9 +122,9 @@ pub fn many(run: &mut Run) -> Compared {
     if run.full {
         let full = [
             sizes(1_000_000, 1_000_000, 1_000_000, Order::Rising),
-            sizes(300, 10, 4_000, Order::Falling),
-            sizes(300, 10, 4_000, Order::Random),
-            sizes(300, 10, 4_000, Order::LastFirst),
+            sizes(300, 10, 1_000_000, Order::Falling),
+            sizes(300, 10, 1_000_000, Order::Random),
+            sizes(300, 10, 1_000_000, Order::LastFirst),
         ];
         for sizes in &full {
             lent(run, &mut random, sizes)?;

@@ -41,11 +41,11 @@ fn lent(sample: &mut Sample, group: usize, file: &[u8], offset: u32, words: [usi
     let rows = rows(file, offset);
     check(&case, &rows).expect("what debug.rs says");
     let right = expected(&case, &rows);
-    let number = hbc_sys::number(right.code);
+    let number = bisquepond::sys::number(right.code);
     let [strings, scopes, names, callees] = right.counts;
     let told = match number {
         0 => Ok([strings + (scopes << 32), names + (callees << 32)]),
-        _ => Err((number, hbc_sys::place(right.code))),
+        _ => Err((number, bisquepond::sys::place(right.code))),
     };
     let fields = Fields::default()
         .numbers(&[offset as usize])

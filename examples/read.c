@@ -1,0 +1,105 @@
+/* Reads a function table, changes a byte, brings the table up to date; then strings and literals. From the root:
+ * gcc -std=c11 -Wall -Wextra -Werror -Iinclude examples/read.c target/staticlib/libhbc_c.a -o read && ./read
+ */
+#include <inttypes.h>
+#include <stdio.h>
+
+#include "hbc.h"
+
+#define COUNT 2
+#define LARGE 32 /* where the large header of function 1 is */
+
+/* Two legacy headers. Bit 5 of the second one's flags says that its fields are in a large header, at byte 32. */
+static uint8_t file[] = {
+    0x00, 0x01, 0x00, 0x04, 0x0A, 0x80, 0x01, 0x00, 0x00, 0x00, 0x00, 0x0A, 1, 2, 3, 0x04,
+    LARGE, 0,   0,    0,    0,    0,    0,    0,    0,    0,    0,    0,    0, 0, 0, 0x20,
+    0x00, 0x10, 0x00, 0x00, /* offset 4096 */
+    0x01, 0x00, 0x00, 0x00, /* param_count 1 */
+    0x40, 0x9C, 0x00, 0x00, /* size 40000 */
+    0x02, 0x00, 0x00, 0x00, /* name 2 */
+    0x00, 0x00, 0x00, 0x00, /* info_offset 0 */
+    0x2C, 0x01, 0x00, 0x00, /* frame_size 300 */
+    0x00, 0x00, 0x00, 0x00, /* environment_size 0 */
+    0, 0, 0,                /* read index, write index, flags */
+};
+
+/* What a call answers, if it was refused. */
+static int refused(const char *call, uint64_t code)
+{
+    if (HBC_NUMBER(code) == 0)
+        return 0;
+    printf("%s: refused %" PRIu32 " at %" PRIu32 "\n", call, HBC_NUMBER(code), HBC_PLACE(code));
+    return 1;
+}
+
+static void print_rows(const uint32_t *rows)
+{
+    for (int i = 0; i < COUNT; i++) {
+        const uint32_t *row = rows + i * HBC_FUNCTION_WORDS;
+        printf("  function %" PRIu32 " offset %" PRIu32 " size %" PRIu32 " name %" PRIu32 " frame %" PRIu32 "\n", row[1],
+               row[2], row[4], row[5], row[7]);
+    }
+}
+
+static int functions(void)
+{
+    uint32_t rows[COUNT * HBC_FUNCTION_WORDS];
+    const size_t words = COUNT * HBC_FUNCTION_WORDS, changed = LARGE + 8;
+    uint64_t code = hbc_read_functions(file, sizeof file, 0, 0, COUNT, rows, words);
+    if (refused("read", code))
+        return 1;
+    printf("%" PRIu64 " functions\n", code);
+    print_rows(rows);
+
+    file[changed] += 1; /* the size of function 1 */
+    code = hbc_refresh_functions(file, sizeof file, 0, 0, COUNT, changed, changed + 1, rows, words);
+    if (refused("refresh", code))
+        return 1;
+    printf("byte %zu changed, %" PRIu64 " row read again\n", changed, code);
+    print_rows(rows);
+
+    /* A file that ends within the large header: the place is the function. */
+    return !refused("read of 62 bytes", hbc_read_functions(file, 62, 0, 0, COUNT, rows, words));
+}
+
+static int strings(void)
+{
+    static const uint8_t storage[] = {'h', 'i', 'y', 'o', 'u'};
+    const uint32_t kinds[] = {1, 1u << 31 | 1};                    /* one string, one identifier */
+    const uint32_t small[] = {0u << 1 | 2u << 24, 2u << 1 | 3u << 24}; /* offset 0 length 2, offset 2 length 3 */
+    const uint32_t overflow[] = {0, 0};
+    uint32_t rows[2 * 4];
+    uint64_t code = hbc_decode_strings(2, kinds, 2, small, 2, overflow, 2, storage, sizeof storage, rows, 8);
+    if (refused("strings", code))
+        return 1;
+    for (size_t i = 0; i < code; i++) {
+        size_t start, len;
+        hbc_string_bytes(storage, sizeof storage, rows, 8, i, &start, &len);
+        printf("string %zu: %.*s%s\n", i, (int)len, (const char *)storage + start,
+               rows[i * 4 + 3] & 2 ? ", an identifier" : "");
+    }
+    return 0;
+}
+
+static int literals(void)
+{
+    static const uint8_t buffer[] = {0x72, 5, 0, 0, 0, 0xFF, 0xFF, 0xFF, 0xFF, 0x11}; /* two integers, then true */
+    uint32_t kinds[3];
+    uint64_t payloads[3];
+    uint64_t code = hbc_read_series(buffer, sizeof buffer, 0, 3, kinds, 3, payloads, 3);
+    if (refused("series", code))
+        return 1;
+    printf("%" PRIu64 " bytes of literals:", code);
+    for (int i = 0; i < 3; i++)
+        if (kinds[i] == 5)
+            printf(" %" PRId32, (int32_t)(uint32_t)payloads[i]);
+        else
+            printf(" %s", kinds[i] == 1 ? "true" : "another");
+    printf("\n");
+    return 0;
+}
+
+int main(void)
+{
+    return functions() || strings() || literals();
+}

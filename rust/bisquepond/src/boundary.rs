@@ -1,0 +1,417 @@
+//! All that is unsafe: the calls of libhbc_c.a with slices lent, and rows seen as the words that they are.
+//!
+//! What include/hbc.h asks of a caller holds here by the types: a slice's pointer is never NULL, is aligned and stands
+//! for as many items as are said; a number is lent by an exclusive reference, as is every slice that is written, so
+//! that nothing lent overlaps. The archive is proved to read and write within what was lent.
+
+#![allow(unsafe_code)]
+
+use crate::refusal::{Place, Refusal};
+use crate::sys;
+
+/// A row of a table: so many words, and nothing else.
+///
+/// # Safety
+///
+/// The type is `repr(transparent)` over `[u32; WORDS]`, and `WORDS` is not 0.
+pub unsafe trait Row: Copy + Default + 'static {
+    /// The words of a row.
+    const WORDS: usize;
+
+    /// The whole rows that lie in the words; words that make no whole row are left out.
+    ///
+    /// ```
+    /// use bisquepond::{Row, table::StringRow};
+    ///
+    /// let rows = StringRow::rows(&[3, 0, 0, 2, 0, 0, 1, 0, 9]);
+    /// assert_eq!(rows.len(), 2);
+    /// assert!(rows[0].is_valid() && rows[0].is_identifier() && !rows[1].is_valid());
+    /// ```
+    fn rows(words: &[u32]) -> &[Self] {
+        rows_of(words)
+    }
+
+    /// The same of words that may be written, to be lent to a call that fills rows.
+    ///
+    /// ```
+    /// use bisquepond::{Layout, Row, function, function::FunctionRow};
+    ///
+    /// let file = [0, 1, 0, 4, 0x0A, 0x80, 1, 0, 0, 0, 0, 0x0A, 1, 2, 3, 4];
+    /// let mut words = [7; 20];
+    /// let rows = FunctionRow::rows_mut(&mut words);
+    /// function::read_functions_into(&file, Layout::Legacy16, 0, 1, rows)?;
+    /// assert_eq!(words, [0, 0, 256, 2, 10, 3, 0, 5, 4, 1, 2, 3, 0, 0, 0, 0, 7, 7, 7, 7]);
+    /// # Ok::<(), bisquepond::Refusal>(())
+    /// ```
+    fn rows_mut(words: &mut [u32]) -> &mut [Self] {
+        rows_of_mut(words)
+    }
+}
+
+pub(crate) fn rows_of<R: Row>(words: &[u32]) -> &[R] {
+    let rows = words.len() / R::WORDS;
+    // SAFETY: a row is WORDS words, with their alignment, and any words are a row; so many lie in the slice.
+    unsafe { std::slice::from_raw_parts(words.as_ptr().cast(), rows) }
+}
+
+pub(crate) fn rows_of_mut<R: Row>(words: &mut [u32]) -> &mut [R] {
+    let rows = words.len() / R::WORDS;
+    // SAFETY: as above; the words are borrowed exclusively for as long as the rows are.
+    unsafe { std::slice::from_raw_parts_mut(words.as_mut_ptr().cast(), rows) }
+}
+
+fn words_of<R: Row>(rows: &[R]) -> &[u32] {
+    // SAFETY: the slice is so many words, each row being WORDS of them and nothing else.
+    unsafe { std::slice::from_raw_parts(rows.as_ptr().cast(), rows.len() * R::WORDS) }
+}
+
+fn words_of_mut<R: Row>(rows: &mut [R]) -> &mut [u32] {
+    // SAFETY: as above; any words are a row, so that whatever is written leaves rows.
+    unsafe { std::slice::from_raw_parts_mut(rows.as_mut_ptr().cast(), rows.len() * R::WORDS) }
+}
+
+macro_rules! rows {
+    ($($(#[$doc:meta])* $row:ident $words:literal)*) => {
+        $(
+            $(#[$doc])*
+            #[repr(transparent)]
+            #[derive(Clone, Copy, PartialEq, Eq, Hash, Default)]
+            pub struct $row(pub(crate) [u32; $words]);
+
+            // SAFETY: declared so in the lines above.
+            unsafe impl Row for $row {
+                const WORDS: usize = $words;
+            }
+        )*
+    };
+}
+
+rows! {
+    /// One function's header, read from its place in the table or from its large header.
+    FunctionRow 16
+    /// One string: where its bytes lie in the storage, and its marks.
+    StringRow 4
+    /// One exception handler.
+    HandlerRow 4
+    /// One string of the debug section: where its bytes lie in the file.
+    TextRow 2
+    /// One scope of the debug section.
+    ScopeRow 5
+    /// One name of a scope.
+    NameRow 1
+    /// One callee of the debug section.
+    CalleeRow 2
+}
+
+// SAFETY of every call below: see the head of this file.
+
+pub(crate) fn bits(word: u64, first: u32, width: u32) -> u64 {
+    unsafe { sys::hbc_bits(word, first, width) }
+}
+
+pub(crate) fn remaining(s: &[u8], at: usize) -> usize {
+    unsafe { sys::hbc_remaining(s.as_ptr(), s.len(), at) }
+}
+
+pub(crate) fn seek(s: &[u8], at: &mut usize, to: usize) -> Result<(), Refusal> {
+    let code = unsafe { sys::hbc_seek(s.as_ptr(), s.len(), at, to) };
+    Refusal::check(code, Place::Nothing).map(drop)
+}
+
+pub(crate) fn align(s: &[u8], at: &mut usize, alignment: usize) -> Result<(), Refusal> {
+    let code = unsafe { sys::hbc_align(s.as_ptr(), s.len(), at, alignment) };
+    Refusal::check(code, Place::Nothing).map(drop)
+}
+
+macro_rules! numbers {
+    ($($name:ident = $call:ident -> $kind:ty;)*) => {
+        $(
+            pub(crate) fn $name(s: &[u8], at: &mut usize) -> Result<$kind, Refusal> {
+                let mut value = Default::default();
+                let code = unsafe { sys::$call(s.as_ptr(), s.len(), at, &mut value) };
+                Refusal::check(code, Place::Nothing).map(|_| value)
+            }
+        )*
+    };
+}
+
+numbers! {
+    read_u8 = hbc_read_u8 -> u8;
+    read_i8 = hbc_read_i8 -> i8;
+    read_u16 = hbc_read_u16 -> u16;
+    read_u32 = hbc_read_u32 -> u32;
+    read_u64 = hbc_read_u64 -> u64;
+    read_i32 = hbc_read_i32 -> i32;
+    read_f64 = hbc_read_f64 -> f64;
+    read_uleb128 = hbc_read_uleb128 -> u64;
+    read_sleb128 = hbc_read_sleb128 -> i64;
+}
+
+macro_rules! parts {
+    ($($name:ident = $call:ident($($len:ident)?);)*) => {
+        $(
+            pub(crate) fn $name<'a>(s: &'a [u8], at: &mut usize, $($len: usize)?) -> Result<&'a [u8], Refusal> {
+                let (mut start, mut size) = (0, 0);
+                let code = unsafe { sys::$call(s.as_ptr(), s.len(), at, $($len,)? &mut start, &mut size) };
+                Refusal::check(code, Place::Nothing).map(|_| &s[start..][..size])
+            }
+        )*
+    };
+}
+
+parts! {
+    read_bytes = hbc_read_bytes(len);
+    read_cstring = hbc_read_cstring();
+    read_length_prefixed_string = hbc_read_length_prefixed_string();
+}
+
+macro_rules! tables {
+    ($($name:ident = $call:ident;)*) => {
+        $(
+            pub(crate) fn $name(s: &[u8], at: &mut usize, count: u32, words: &mut [u32]) -> Result<(), Refusal> {
+                let (lent, len) = (words.as_mut_ptr(), words.len());
+                let code = unsafe { sys::$call(s.as_ptr(), s.len(), at, count, lent, len) };
+                Refusal::check(code, Place::Entries).map(drop)
+            }
+        )*
+    };
+}
+
+tables! {
+    read_u32_table = hbc_read_u32_table;
+    read_pair_table = hbc_read_pair_table;
+}
+
+pub(crate) fn decode_strings(
+    count: u32,
+    [kinds, small, overflow]: [&[u32]; 3],
+    storage: &[u8],
+    rows: &mut [StringRow],
+) -> Result<u32, Refusal> {
+    let rows = words_of_mut(rows);
+    let code = unsafe {
+        sys::hbc_decode_strings(
+            count,
+            kinds.as_ptr(),
+            kinds.len(),
+            small.as_ptr(),
+            small.len(),
+            overflow.as_ptr(),
+            overflow.len(),
+            storage.as_ptr(),
+            storage.len(),
+            rows.as_mut_ptr(),
+            rows.len(),
+        )
+    };
+    Refusal::check(code, Place::String)
+}
+
+pub(crate) fn string_bytes<'a>(storage: &'a [u8], rows: &[StringRow], index: usize) -> &'a [u8] {
+    let (words, mut start, mut len) = (words_of(rows), 0, 0);
+    unsafe {
+        sys::hbc_string_bytes(
+            storage.as_ptr(),
+            storage.len(),
+            words.as_ptr(),
+            words.len(),
+            index,
+            &mut start,
+            &mut len,
+        )
+    };
+    &storage[start..][..len]
+}
+
+/// The kind, the float and the word; what the kind does not speak of is 0.
+pub(crate) fn read_literal(s: &[u8], at: &mut usize, tag: u8) -> Result<(u32, f64, u32), Refusal> {
+    let (mut kind, mut number, mut word) = (0, 0.0, 0);
+    let code = unsafe {
+        sys::hbc_read_literal(
+            s.as_ptr(),
+            s.len(),
+            at,
+            tag,
+            &mut kind,
+            &mut number,
+            &mut word,
+        )
+    };
+    Refusal::check(code, Place::Nothing).map(|_| (kind, number, word))
+}
+
+pub(crate) fn read_series(
+    s: &[u8],
+    offset: u32,
+    count: u32,
+    kinds: &mut [u32],
+    payloads: &mut [u64],
+) -> Result<u32, Refusal> {
+    let (kinds_len, payloads_len) = (kinds.len(), payloads.len());
+    let (kinds, payloads) = (kinds.as_mut_ptr(), payloads.as_mut_ptr());
+    let code = unsafe {
+        sys::hbc_read_series(
+            s.as_ptr(),
+            s.len(),
+            offset,
+            count,
+            kinds,
+            kinds_len,
+            payloads,
+            payloads_len,
+        )
+    };
+    Refusal::check(code, Place::Values)
+}
+
+pub(crate) fn read_object(
+    [keys, values]: [&[u8]; 2],
+    of_keys: bool,
+    offset: u32,
+    count: u32,
+    kinds: &mut [u32],
+    payloads: &mut [u64],
+) -> Result<u32, Refusal> {
+    let (kinds_len, payloads_len) = (kinds.len(), payloads.len());
+    let (kinds, payloads) = (kinds.as_mut_ptr(), payloads.as_mut_ptr());
+    let code = unsafe {
+        sys::hbc_read_object(
+            keys.as_ptr(),
+            keys.len(),
+            values.as_ptr(),
+            values.len(),
+            of_keys.into(),
+            offset,
+            count,
+            kinds,
+            kinds_len,
+            payloads,
+            payloads_len,
+        )
+    };
+    Refusal::check(code, Place::Values)
+}
+
+pub(crate) fn read_functions(
+    file: &[u8],
+    layout: u32,
+    start: usize,
+    count: u32,
+    rows: &mut [FunctionRow],
+) -> Result<u32, Refusal> {
+    let (s, len, rows) = (file.as_ptr(), file.len(), words_of_mut(rows));
+    let (lent, words) = (rows.as_mut_ptr(), rows.len());
+    let code = unsafe { sys::hbc_read_functions(s, len, layout, start, count, lent, words) };
+    Refusal::check(code, Place::Function)
+}
+
+pub(crate) fn refresh_functions(
+    file: &[u8],
+    layout: u32,
+    start: usize,
+    count: u32,
+    (low, high): (usize, usize),
+    rows: &mut [FunctionRow],
+) -> Result<u32, Refusal> {
+    let (s, len, rows) = (file.as_ptr(), file.len(), words_of_mut(rows));
+    let (lent, words) = (rows.as_mut_ptr(), rows.len());
+    let code =
+        unsafe { sys::hbc_refresh_functions(s, len, layout, start, count, low, high, lent, words) };
+    Refusal::check(code, Place::Function)
+}
+
+pub(crate) fn read_function(
+    file: &[u8],
+    layout: u32,
+    start: usize,
+    id: u32,
+) -> Result<FunctionRow, Refusal> {
+    let mut row = FunctionRow::default();
+    let (s, len, lent) = (file.as_ptr(), file.len(), &mut row.0);
+    let (lent, words) = (lent.as_mut_ptr(), lent.len());
+    let code = unsafe { sys::hbc_read_function(s, len, layout, start, id, lent, words) };
+    Refusal::check(code, Place::Function).map(|_| row)
+}
+
+/// A layout that there is not is the only refusal.
+pub(crate) fn function_meets(
+    file: &[u8],
+    layout: u32,
+    start: usize,
+    id: u32,
+    (low, high): (usize, usize),
+) -> Result<bool, Refusal> {
+    let (s, len) = (file.as_ptr(), file.len());
+    let code = unsafe { sys::hbc_function_meets(s, len, layout, start, id, low, high) };
+    Refusal::check(code, Place::Nothing).map(|met| met != 0)
+}
+
+/// How many rows were written.
+pub(crate) fn read_handlers(
+    file: &[u8],
+    functions: &[FunctionRow],
+    count: u32,
+    rows: &mut [HandlerRow],
+) -> Result<usize, Refusal> {
+    let (s, len, mut total) = (file.as_ptr(), file.len(), 0);
+    let (functions, rows) = (words_of(functions), words_of_mut(rows));
+    let (read, read_len) = (functions.as_ptr(), functions.len());
+    let (lent, words) = (rows.as_mut_ptr(), rows.len());
+    let code =
+        unsafe { sys::hbc_read_handlers(s, len, read, read_len, count, lent, words, &mut total) };
+    Refusal::check(code, Place::Nothing).map(|_| total)
+}
+
+/// The five sections, four words each.
+pub(crate) fn trailing_sections(
+    file: &[u8],
+    start: usize,
+    [regexps, storage, cjs]: [u32; 3],
+    sources: Option<u32>,
+) -> Result<[[u32; 4]; 5], Refusal> {
+    let mut rows = [[0; 4]; 5];
+    let (s, len, lent) = (file.as_ptr(), file.len(), rows.as_flattened_mut());
+    let (lent, words) = (lent.as_mut_ptr(), lent.len());
+    let (given, sources) = (sources.is_some(), sources.unwrap_or(0));
+    let code = unsafe {
+        sys::hbc_trailing_sections(
+            s, len, start, regexps, storage, cjs, given, sources, lent, words,
+        )
+    };
+    Refusal::check(code, Place::Nothing).map(|_| rows)
+}
+
+/// How many rows were written in each table.
+pub(crate) fn read_debug(
+    file: &[u8],
+    offset: u32,
+    strings: &mut [TextRow],
+    scopes: &mut [ScopeRow],
+    names: &mut [NameRow],
+    callees: &mut [CalleeRow],
+) -> Result<[usize; 4], Refusal> {
+    let (strings, scopes) = (words_of_mut(strings), words_of_mut(scopes));
+    let (names, callees) = (words_of_mut(names), words_of_mut(callees));
+    let mut counts = [0; 4];
+    let [string_count, scope_count, name_count, callee_count] = &mut counts;
+    let code = unsafe {
+        sys::hbc_read_debug(
+            file.as_ptr(),
+            file.len(),
+            offset,
+            strings.as_mut_ptr(),
+            strings.len(),
+            scopes.as_mut_ptr(),
+            scopes.len(),
+            names.as_mut_ptr(),
+            names.len(),
+            callees.as_mut_ptr(),
+            callees.len(),
+            string_count,
+            scope_count,
+            name_count,
+            callee_count,
+        )
+    };
+    Refusal::check(code, Place::Nothing).map(|_| counts)
+}

@@ -1,0 +1,179 @@
+//! A position in the bytes, and what is read there. Numbers are little-endian.
+//!
+//! A refused read leaves the position where it was, but for LEB128 and strings: see each.
+
+use crate::Refusal;
+use crate::boundary;
+
+/// Bytes with a position. Its calls have the names that hermes-decomp's reader has.
+///
+/// ```
+/// use bisquepond::io::ByteReader;
+///
+/// let mut reader = ByteReader::new(&[1, 0, 0, 0, 2, b'h', b'i', 0xFF]);
+/// assert_eq!(reader.read_u32()?, 1);
+/// assert_eq!(reader.read_length_prefixed_string()?, b"hi");
+/// assert_eq!((reader.position(), reader.remaining()), (7, 1));
+/// # Ok::<(), bisquepond::Refusal>(())
+/// ```
+#[derive(Clone, Copy, PartialEq, Eq, Debug)]
+pub struct ByteReader<'a> {
+    pub(crate) bytes: &'a [u8],
+    pub(crate) at: usize,
+}
+
+impl<'a> ByteReader<'a> {
+    /// A reader at byte 0.
+    ///
+    /// ```
+    /// let reader = bisquepond::io::ByteReader::new(&[5, 6]);
+    /// assert_eq!((reader.position(), reader.remaining()), (0, 2));
+    /// ```
+    pub const fn new(bytes: &'a [u8]) -> Self {
+        ByteReader { bytes, at: 0 }
+    }
+
+    /// A reader at any position, past the end too: reads there are refused 2.
+    ///
+    /// ```
+    /// use bisquepond::io::ByteReader;
+    ///
+    /// assert_eq!(ByteReader::at(&[5, 6], 1).read_u8()?, 6);
+    /// assert_eq!(ByteReader::at(&[5, 6], 3).read_u8().unwrap_err().number, 2);
+    /// # Ok::<(), bisquepond::Refusal>(())
+    /// ```
+    pub const fn at(bytes: &'a [u8], position: usize) -> Self {
+        ByteReader {
+            bytes,
+            at: position,
+        }
+    }
+
+    /// Where it stands.
+    ///
+    /// ```
+    /// assert_eq!(bisquepond::io::ByteReader::at(&[5, 6], 1).position(), 1);
+    /// ```
+    pub const fn position(&self) -> usize {
+        self.at
+    }
+
+    /// How many bytes stand from the position to the end; 0 past the end.
+    ///
+    /// ```
+    /// use bisquepond::io::ByteReader;
+    ///
+    /// assert_eq!(ByteReader::at(&[5, 6, 7], 1).remaining(), 2);
+    /// assert_eq!(ByteReader::at(&[5, 6, 7], 9).remaining(), 0);
+    /// ```
+    pub fn remaining(&self) -> usize {
+        boundary::remaining(self.bytes, self.at)
+    }
+
+    /// Moves to `position`, from wherever it stands. Refused 2 if that is past the end.
+    ///
+    /// ```
+    /// let mut reader = bisquepond::io::ByteReader::new(&[5, 6]);
+    /// reader.seek(2)?;
+    /// assert_eq!((reader.seek(3).unwrap_err().number, reader.position()), (2, 2));
+    /// # Ok::<(), bisquepond::Refusal>(())
+    /// ```
+    pub fn seek(&mut self, position: usize) -> Result<(), Refusal> {
+        boundary::seek(self.bytes, &mut self.at, position)
+    }
+
+    /// Moves to the next multiple of `alignment`, not at all if it stands on one. Refused 6 if that is 0, 2 if it goes
+    /// past the end.
+    ///
+    /// ```
+    /// let mut reader = bisquepond::io::ByteReader::at(&[0; 6], 1);
+    /// reader.align(4)?;
+    /// assert_eq!(reader.position(), 4);
+    /// assert_eq!(reader.align(0).unwrap_err().number, 6);
+    /// assert_eq!((reader.align(8).unwrap_err().number, reader.position()), (2, 4));
+    /// # Ok::<(), bisquepond::Refusal>(())
+    /// ```
+    pub fn align(&mut self, alignment: usize) -> Result<(), Refusal> {
+        boundary::align(self.bytes, &mut self.at, alignment)
+    }
+
+    /// The next `len` bytes. Refused 3 if fewer are left.
+    ///
+    /// ```
+    /// let mut reader = bisquepond::io::ByteReader::new(&[5, 6, 7]);
+    /// assert_eq!(reader.read_bytes(2)?, [5, 6]);
+    /// assert_eq!((reader.read_bytes(2).unwrap_err().number, reader.position()), (3, 2));
+    /// # Ok::<(), bisquepond::Refusal>(())
+    /// ```
+    pub fn read_bytes(&mut self, len: usize) -> Result<&'a [u8], Refusal> {
+        boundary::read_bytes(self.bytes, &mut self.at, len)
+    }
+
+    /// The bytes up to the next zero, without it. Refused 9 if there is none: it then stands at the end.
+    ///
+    /// ```
+    /// let mut reader = bisquepond::io::ByteReader::new(b"hi\0ho");
+    /// assert_eq!(reader.read_cstring()?, b"hi");
+    /// assert_eq!((reader.read_cstring().unwrap_err().number, reader.position()), (9, 5));
+    /// # Ok::<(), bisquepond::Refusal>(())
+    /// ```
+    pub fn read_cstring(&mut self) -> Result<&'a [u8], Refusal> {
+        boundary::read_cstring(self.bytes, &mut self.at)
+    }
+
+    /// A length as an unsigned LEB128 number, and that many bytes. Refused as the number is, or 3 if fewer bytes are
+    /// left: it then stands after the length.
+    ///
+    /// ```
+    /// let mut reader = bisquepond::io::ByteReader::new(&[2, b'h', b'i', 9, b'h']);
+    /// assert_eq!(reader.read_length_prefixed_string()?, b"hi");
+    /// assert_eq!(reader.read_length_prefixed_string().unwrap_err().number, 3);
+    /// assert_eq!(reader.position(), 4);
+    /// # Ok::<(), bisquepond::Refusal>(())
+    /// ```
+    pub fn read_length_prefixed_string(&mut self) -> Result<&'a [u8], Refusal> {
+        boundary::read_length_prefixed_string(self.bytes, &mut self.at)
+    }
+}
+
+macro_rules! numbers {
+    ($($(#[$doc:meta])* $name:ident -> $kind:ident, [$($byte:literal),*], $value:literal;)*) => {
+        impl ByteReader<'_> {
+            $(
+                $(#[$doc])*
+                ///
+                /// ```
+                #[doc = concat!("let mut reader = bisquepond::io::ByteReader::new(&[", $(stringify!($byte), ", ",)* "]);")]
+                #[doc = concat!("assert_eq!(reader.", stringify!($name), "()?, ", $value, ");")]
+                #[doc = concat!("assert_eq!(reader.", stringify!($name), "().unwrap_err().number, 3);")]
+                /// # Ok::<(), bisquepond::Refusal>(())
+                /// ```
+                pub fn $name(&mut self) -> Result<$kind, Refusal> {
+                    boundary::$name(self.bytes, &mut self.at)
+                }
+            )*
+        }
+    };
+}
+
+numbers! {
+    /// A byte. Refused 3 at the end.
+    read_u8 -> u8, [0xFE], "254";
+    /// A signed byte. Refused 3 at the end.
+    read_i8 -> i8, [0xFE], "-2";
+    /// A number of two bytes. Refused 3 if fewer are left.
+    read_u16 -> u16, [0x34, 0x12], "0x1234";
+    /// A number of four bytes. Refused 3 if fewer are left.
+    read_u32 -> u32, [0x78, 0x56, 0x34, 0x12], "0x1234_5678";
+    /// A number of eight bytes. Refused 3 if fewer are left.
+    read_u64 -> u64, [1, 0, 0, 0, 0, 0, 0, 0x80], "0x8000_0000_0000_0001";
+    /// A signed number of four bytes. Refused 3 if fewer are left.
+    read_i32 -> i32, [0xFE, 0xFF, 0xFF, 0xFF], "-2";
+    /// A double of eight bytes; a NaN is some NaN. Refused 3 if fewer are left.
+    read_f64 -> f64, [0, 0, 0, 0, 0, 0, 0xF8, 0x3F], "1.5";
+    /// An unsigned LEB128 number of at most ten bytes: its low 64 bits. Refused 3 if the bytes end before it does, 5 if
+    /// its tenth byte has bit 7 set: it then stands after the last byte looked at.
+    read_uleb128 -> u64, [0xB9, 0x64], "12857";
+    /// A signed LEB128 number of at most ten bytes. Refused as [`read_uleb128`](Self::read_uleb128).
+    read_sleb128 -> i64, [0x80, 0x7F], "-128";
+}

@@ -1,0 +1,66 @@
+//! Reads the tables of Hermes bytecode (React Native's `.hbc`): functions, strings, literals, handlers, sections and
+//! debug data. Every answer is that of libhbc_c.a, whose functions are proved to meet their contracts on every input;
+//! this crate lends it slices and gives its numbers types. It has no dependencies.
+//!
+//! ```
+//! use bisquepond::{Layout, function};
+//!
+//! // One function, in a table of legacy headers that begins at byte 0.
+//! let file = [0, 1, 0, 4, 0x0A, 0x80, 1, 0, 0, 0, 0, 0x0A, 1, 2, 3, 4];
+//! let table = function::read_functions(&file, Layout::Legacy16, 0, 1)?;
+//! assert_eq!((table[0].offset(), table[0].size(), table[0].name()), (256, 10, 3));
+//!
+//! // A header that is cut is refused, with its function's number as the place.
+//! let cut = function::read_functions(&file[..15], Layout::Legacy16, 0, 1).unwrap_err();
+//! assert_eq!((cut.number, cut.place), (3, 0));
+//! # Ok::<(), bisquepond::Refusal>(())
+//! ```
+//!
+//! | module | what it reads |
+//! |---|---|
+//! | [`io`] | numbers, LEB128 and strings at a position in the bytes |
+//! | [`function`] | function headers of both layouts, and the refresh of a table after an edit |
+//! | [`table`] | tables of words and pairs, and strings |
+//! | [`literal`] | literals, series of them, and the keys and values of objects |
+//! | [`parsing`] | exception handlers and trailing sections |
+//! | [`debug`] | the debug section |
+//! | [`sys`] | the C calls themselves |
+//!
+//! Each call that fills rows has two forms: one ending in `_into` fills rows that are lent and allocates nothing, the
+//! other allocates what the answer needs. How much that is is decided by the bytes, never by a count alone.
+//!
+//! A call that is refused leaves every lent row as it was.
+
+#![deny(missing_docs)]
+#![deny(unsafe_code)]
+#![deny(unsafe_op_in_unsafe_fn)]
+
+#[macro_use]
+mod rows;
+mod boundary;
+pub mod debug;
+pub mod function;
+pub mod io;
+pub mod literal;
+pub mod parsing;
+mod refusal;
+pub mod sys;
+pub mod table;
+
+pub use boundary::Row;
+pub use function::Layout;
+pub use refusal::Refusal;
+pub use rows::Table;
+
+/// The `width` bits of `word` from bit `first`, the least bit being bit 0. Bits past the word are 0.
+///
+/// ```
+/// // The first eight bytes of a legacy header: offset (0, 25), param_count (25, 7), size (32, 15), name (47, 17).
+/// let word = u64::from_le_bytes([0, 1, 0, 4, 0x0A, 0x80, 1, 0]);
+/// let field = |first, width| bisquepond::bits(word, first, width);
+/// assert_eq!([field(0, 25), field(25, 7), field(32, 15), field(47, 17)], [256, 2, 10, 3]);
+/// assert_eq!(bisquepond::bits(u64::MAX, 60, 64), 15);
+/// ```
+pub fn bits(word: u64, first: u32, width: u32) -> u64 {
+    boundary::bits(word, first, width)
+}

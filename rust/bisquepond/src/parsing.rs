@@ -1,0 +1,220 @@
+//! Exception handlers and the sections that follow the tables.
+
+use std::fmt;
+
+use crate::boundary;
+use crate::function::FunctionRow;
+use crate::{Refusal, Table};
+
+pub use crate::boundary::HandlerRow;
+
+/// The most handlers that one function can have.
+const MOST: usize = 1000;
+
+words! {
+    HandlerRow,
+    "# use bisquepond::{Row, function::FunctionRow, parsing};\n# let file = [0, 0, 0, 0, 1, 0, 0, 0, 10, 0, 0, 0, 20, 0, 0, 0, 30, 0, 0, 0];\n# let functions = FunctionRow::rows(&[0, 0, 0, 0, 0, 0, 4, 0, 8, 0, 0, 0, 0, 0, 0, 0]);\nlet row = parsing::read_handlers(&file, functions, 1)?[0];":
+    /// The number of the function that it belongs to.
+    function = 0, "0";
+    /// Where the bytes that it guards begin.
+    start = 1, "10";
+    /// Where they end.
+    end = 2, "20";
+    /// Where it goes on.
+    target = 3, "30";
+}
+
+impl fmt::Debug for HandlerRow {
+    fn fmt(&self, f: &mut fmt::Formatter<'_>) -> fmt::Result {
+        f.debug_struct("HandlerRow")
+            .field("function", &self.function())
+            .field("start", &self.start())
+            .field("end", &self.end())
+            .field("target", &self.target())
+            .finish()
+    }
+}
+
+/// Lists the exception handlers of functions 0 to count - 1 in the first rows that are lent, functions rising, and
+/// answers these; other rows stay. Row i of `functions` is function i, whatever its id says; only info_offset and flags
+/// are read.
+///
+/// A function has none if its flag is clear, if info_offset is 0 or at or past the end, if its place rounded up to 4
+/// leaves no 4 bytes, if the count there is 0 or above 1000, or if one of its handlers is cut.
+///
+/// Refused 1; 11 if fewer than `count` functions are lent; 4 if there are more handlers than rows.
+///
+/// ```
+/// use bisquepond::{Row, function::FunctionRow, parsing::{self, HandlerRow}};
+///
+/// // At byte 4 stand the count 1 and one handler; function 0 has info_offset 4 and its flag set.
+/// let file = [0, 0, 0, 0, 1, 0, 0, 0, 10, 0, 0, 0, 20, 0, 0, 0, 30, 0, 0, 0];
+/// let functions = FunctionRow::rows(&[0, 0, 0, 0, 0, 0, 4, 0, 8, 0, 0, 0, 0, 0, 0, 0]);
+/// let mut rows = [HandlerRow::default(); 2];
+/// let handlers = parsing::read_handlers_into(&file, functions, 1, &mut rows)?;
+/// assert_eq!((handlers.len(), handlers[0].target()), (1, 30));
+/// let few = parsing::read_handlers_into(&file, functions, 2, &mut rows).unwrap_err();
+/// assert_eq!(few.number, 11);
+/// let short = parsing::read_handlers_into(&file, functions, 1, &mut []).unwrap_err();
+/// assert_eq!(short.number, 4);
+/// # Ok::<(), bisquepond::Refusal>(())
+/// ```
+pub fn read_handlers_into<'t>(
+    file: &[u8],
+    functions: &[FunctionRow],
+    count: u32,
+    rows: &'t mut [HandlerRow],
+) -> Result<&'t [HandlerRow], Refusal> {
+    let total = boundary::read_handlers(file, functions, count, rows)?;
+    Ok(&rows[..total])
+}
+
+/// The same into a table of its own. Refused so, but never 4. Functions may share handlers, so that a table can be many
+/// times as long as the file: [`count_handlers`] says how long.
+///
+/// ```
+/// use bisquepond::{Row, function::FunctionRow, parsing};
+///
+/// // 64 bytes, info_offset 45 and the count 2 at byte 48: the second handler is cut, so there is none, not one.
+/// let mut file = [0; 64];
+/// file[48] = 2;
+/// let functions = FunctionRow::rows(&[0, 0, 0, 0, 0, 0, 45, 0, 8, 0, 0, 0, 0, 0, 0, 0]);
+/// assert!(parsing::read_handlers(&file, functions, 1)?.is_empty());
+/// file[48] = 1;
+/// assert_eq!(parsing::read_handlers(&file, functions, 1)?.len(), 1);
+/// # Ok::<(), bisquepond::Refusal>(())
+/// ```
+pub fn read_handlers(
+    file: &[u8],
+    functions: &[FunctionRow],
+    count: u32,
+) -> Result<Table<HandlerRow>, Refusal> {
+    let mut rows = Table::zeros(count_handlers(file, functions, count)?);
+    read_handlers_into(file, functions, count, &mut rows)?;
+    Ok(rows)
+}
+
+/// How many rows [`read_handlers`] would have. Refused as it is.
+///
+/// ```
+/// use bisquepond::{Row, function::FunctionRow, parsing};
+///
+/// // Two functions that share one handler.
+/// let file = [0, 0, 0, 0, 1, 0, 0, 0, 10, 0, 0, 0, 20, 0, 0, 0, 30, 0, 0, 0];
+/// let words = [0, 0, 0, 0, 0, 0, 4, 0, 8, 0, 0, 0, 0, 0, 0, 0].repeat(2);
+/// let functions = FunctionRow::rows(&words);
+/// assert_eq!(parsing::count_handlers(&file, functions, 2)?, 2);
+/// assert_eq!(parsing::count_handlers(&file, functions, 3).unwrap_err().number, 11);
+/// # Ok::<(), bisquepond::Refusal>(())
+/// ```
+pub fn count_handlers(
+    file: &[u8],
+    functions: &[FunctionRow],
+    count: u32,
+) -> Result<usize, Refusal> {
+    let Some(listed) = functions.get(..count as usize) else {
+        // Refused 1 or 11, before any row is looked for.
+        return boundary::read_handlers(file, functions, count, &mut []);
+    };
+    boundary::read_handlers(file, &[], 0, &mut [])?;
+    let mut room = vec![HandlerRow::default(); MOST];
+    let mut total = 0;
+    for row in listed.iter().filter(|row| row.has_handlers()) {
+        total += boundary::read_handlers(file, std::slice::from_ref(row), 1, &mut room)?;
+    }
+    Ok(total)
+}
+
+/// Where a section lies.
+#[derive(Clone, Copy, PartialEq, Eq, Hash, Debug)]
+pub struct Section {
+    /// Its first byte in the file.
+    pub start: u32,
+    /// Its bytes, with padding.
+    pub size: u32,
+    /// How many entries it has; 0 for storage and bytecode. A table's entries are read by
+    /// [`read_pair_table`](crate::io::ByteReader::read_pair_table).
+    pub entries: u32,
+}
+
+/// The sections that follow the tables.
+#[derive(Clone, Copy, PartialEq, Eq, Hash, Debug)]
+pub struct Sections {
+    /// The regexp table, pairs.
+    pub regexp_table: Section,
+    /// The regexp storage.
+    pub regexp_storage: Section,
+    /// The CJS modules, pairs.
+    pub cjs_pairs: Section,
+    /// The function sources, pairs, if a count was given.
+    pub function_sources: Option<Section>,
+    /// All the rest of the file.
+    pub bytecode: Section,
+}
+
+/// How many entries, or bytes of storage, the sections have.
+#[derive(Clone, Copy, PartialEq, Eq, Hash, Debug, Default)]
+pub struct SectionCounts {
+    /// Entries of the regexp table.
+    pub regexps: u32,
+    /// Bytes of the regexp storage.
+    pub storage: u32,
+    /// CJS pairs.
+    pub cjs: u32,
+    /// Function sources, if the file has them.
+    pub sources: Option<u32>,
+}
+
+/// Finds the sections from byte `start` on. Nothing is allocated.
+///
+/// Refused 1; 2 if `start` is past the end; then, section by section, 3 if its bytes and 2 if its padding goes past the
+/// end.
+///
+/// ```
+/// use bisquepond::parsing::{self, SectionCounts};
+///
+/// let counts = SectionCounts { regexps: 1, storage: 3, ..SectionCounts::default() };
+/// let sections = parsing::trailing_sections(&[0; 20], 4, counts)?;
+/// let storage = sections.regexp_storage;
+/// assert_eq!((storage.start, storage.size, storage.entries), (12, 4, 0));
+/// assert_eq!((sections.function_sources, sections.bytecode.start), (None, 16));
+///
+/// // 10 bytes, start 8, one byte of storage: its padding goes past the end.
+/// let counts = SectionCounts { storage: 1, ..SectionCounts::default() };
+/// assert_eq!(parsing::trailing_sections(&[0; 10], 8, counts).unwrap_err().number, 2);
+/// # Ok::<(), bisquepond::Refusal>(())
+/// ```
+pub fn trailing_sections(
+    file: &[u8],
+    start: usize,
+    counts: SectionCounts,
+) -> Result<Sections, Refusal> {
+    let SectionCounts {
+        regexps,
+        storage,
+        cjs,
+        sources,
+    } = counts;
+    let rows = boundary::trailing_sections(file, start, [regexps, storage, cjs], sources)?;
+    let [
+        regexp_table,
+        regexp_storage,
+        cjs_pairs,
+        function_sources,
+        bytecode,
+    ] = rows.map(|[start, size, entries, absent]| {
+        let section = Section {
+            start,
+            size,
+            entries,
+        };
+        (section, absent == 0)
+    });
+    Ok(Sections {
+        regexp_table: regexp_table.0,
+        regexp_storage: regexp_storage.0,
+        cjs_pairs: cjs_pairs.0,
+        function_sources: function_sources.1.then_some(function_sources.0),
+        bytecode: bytecode.0,
+    })
+}

@@ -1,0 +1,259 @@
+//! Tables of words and of pairs, and strings.
+
+use std::fmt;
+
+use crate::boundary;
+use crate::io::ByteReader;
+use crate::{Refusal, Table};
+
+pub use crate::boundary::StringRow;
+
+/// As many entries as are asked for, but at most one more than the bytes left can hold: that one is refused, as it
+/// would be with all of them.
+fn entries(reader: &ByteReader<'_>, count: u32, size: usize) -> u32 {
+    let most = reader.remaining() / size + 1;
+    count.min(most.try_into().unwrap_or(u32::MAX))
+}
+
+impl ByteReader<'_> {
+    /// Reads `count` words into the first that are lent; other words stay. Kind runs are read so too.
+    ///
+    /// Refused 1; 2 if it stands past the end; 4 if fewer than `count` words are lent; 3 if the bytes end before the
+    /// words do, with the count of whole entries before that as place.
+    ///
+    /// ```
+    /// use bisquepond::io::ByteReader;
+    ///
+    /// let mut reader = ByteReader::new(&[1, 0, 0, 0, 2, 0, 0, 0, 3]);
+    /// let mut words = [7; 3];
+    /// reader.read_u32_table_into(2, &mut words)?;
+    /// assert_eq!((words, reader.position()), ([1, 2, 7], 8));
+    /// let cut = ByteReader::new(&[1, 0, 0, 0, 2]).read_u32_table_into(2, &mut words).unwrap_err();
+    /// assert_eq!((cut.number, cut.place), (3, 1));
+    /// # Ok::<(), bisquepond::Refusal>(())
+    /// ```
+    pub fn read_u32_table_into(&mut self, count: u32, words: &mut [u32]) -> Result<(), Refusal> {
+        boundary::read_u32_table(self.bytes, &mut self.at, count, words)
+    }
+
+    /// The same into memory of its own, never more than the bytes left need. Refused so, but never 4.
+    ///
+    /// ```
+    /// use bisquepond::io::ByteReader;
+    ///
+    /// let mut reader = ByteReader::new(&[1, 0, 0, 0, 2, 0, 0, 0]);
+    /// assert_eq!(reader.read_u32_table(2)?, [1, 2]);
+    /// let cut = ByteReader::new(&[1, 0, 0, 0, 2]).read_u32_table(u32::MAX).unwrap_err();
+    /// assert_eq!((cut.number, cut.place), (3, 1));
+    /// # Ok::<(), bisquepond::Refusal>(())
+    /// ```
+    pub fn read_u32_table(&mut self, count: u32) -> Result<Vec<u32>, Refusal> {
+        let count = entries(self, count, 4);
+        let mut words = vec![0; count as usize];
+        self.read_u32_table_into(count, &mut words)?;
+        Ok(words)
+    }
+
+    /// Reads `count` pairs of words into the first that are lent: overflow strings, table entries, shapes, CJS pairs.
+    /// Refused as [`read_u32_table_into`](Self::read_u32_table_into).
+    ///
+    /// ```
+    /// use bisquepond::io::ByteReader;
+    ///
+    /// let mut pairs = [[7; 2]; 2];
+    /// ByteReader::new(&[1, 0, 0, 0, 2, 0, 0, 0]).read_pair_table_into(1, &mut pairs)?;
+    /// assert_eq!(pairs, [[1, 2], [7, 7]]);
+    /// # Ok::<(), bisquepond::Refusal>(())
+    /// ```
+    pub fn read_pair_table_into(
+        &mut self,
+        count: u32,
+        pairs: &mut [[u32; 2]],
+    ) -> Result<(), Refusal> {
+        let words = pairs.as_flattened_mut();
+        boundary::read_pair_table(self.bytes, &mut self.at, count, words)
+    }
+
+    /// The same into memory of its own, never more than the bytes left need. Refused so, but never 4.
+    ///
+    /// ```
+    /// use bisquepond::io::ByteReader;
+    ///
+    /// let mut reader = ByteReader::new(&[1, 0, 0, 0, 2, 0, 0, 0, 3, 0, 0, 0]);
+    /// assert_eq!(reader.read_pair_table(1)?, [[1, 2]]);
+    /// let cut = reader.read_pair_table(1).unwrap_err();
+    /// assert_eq!((cut.number, cut.place, reader.position()), (3, 0, 8));
+    /// # Ok::<(), bisquepond::Refusal>(())
+    /// ```
+    pub fn read_pair_table(&mut self, count: u32) -> Result<Vec<[u32; 2]>, Refusal> {
+        let count = entries(self, count, 8);
+        let mut pairs = vec![[0; 2]; count as usize];
+        self.read_pair_table_into(count, &mut pairs)?;
+        Ok(pairs)
+    }
+}
+
+/// What strings are decoded from. Each part is as the table reads of [`ByteReader`] give it.
+///
+/// ```
+/// use bisquepond::table::Strings;
+///
+/// let strings = Strings {
+///     kinds: &[1 << 31 | 2],
+///     small: &[0 << 1 | 2 << 24, 2 << 1 | 3 << 24],
+///     overflow: &[],
+///     storage: b"hiyou",
+/// };
+/// let rows = strings.decode(2)?;
+/// assert_eq!(rows[1].bytes(strings.storage), b"you");
+/// assert!(rows[1].is_identifier() && !rows[1].is_utf16());
+/// # Ok::<(), bisquepond::Refusal>(())
+/// ```
+#[derive(Clone, Copy, Debug)]
+pub struct Strings<'a> {
+    /// The kind runs: bit 31 is identifier, the low 31 bits the length.
+    pub kinds: &'a [u32],
+    /// The small entries: bit 0 UTF-16, bits 1 to 23 offset, bits 24 to 31 length. Length 255 takes the next pair.
+    pub small: &'a [u32],
+    /// The overflow pairs, offset and length.
+    pub overflow: &'a [[u32; 2]],
+    /// The bytes of all strings.
+    pub storage: &'a [u8],
+}
+
+impl Strings<'_> {
+    /// Decodes the first strings, as many as the lesser of `count` and the small entries, into the first rows that are
+    /// lent, and answers these. Other rows stay.
+    ///
+    /// Refused 1 if the storage is longer than 2^30 bytes; 4 if too few rows are lent; 8 if a string needs an overflow
+    /// pair and none is left, with the string as place.
+    ///
+    /// ```
+    /// use bisquepond::table::{StringRow, Strings};
+    ///
+    /// // A storage of 4 bytes: start 3 with length 0 is valid, start 4 with length 0 is not.
+    /// let strings = Strings { kinds: &[2], small: &[3 << 1, 4 << 1], overflow: &[], storage: b"abcd" };
+    /// let mut rows = [StringRow::default(); 4];
+    /// let decoded = strings.decode_into(9, &mut rows)?;
+    /// assert_eq!(decoded.len(), 2);
+    /// assert!(decoded[0].is_valid() && !decoded[1].is_valid());
+    /// assert_eq!(strings.decode_into(2, &mut rows[..1]).unwrap_err().number, 4);
+    /// # Ok::<(), bisquepond::Refusal>(())
+    /// ```
+    pub fn decode_into<'t>(
+        &self,
+        count: u32,
+        rows: &'t mut [StringRow],
+    ) -> Result<&'t [StringRow], Refusal> {
+        let words = [self.kinds, self.small, self.overflow.as_flattened()];
+        let decoded = boundary::decode_strings(count, words, self.storage, rows)?;
+        Ok(&rows[..decoded as usize])
+    }
+
+    /// The same into a table of its own. Refused so, but never 4.
+    ///
+    /// ```
+    /// use bisquepond::table::Strings;
+    ///
+    /// // Runs of one string, no identifier, one string: an empty run that is reached still names one.
+    /// let strings = Strings {
+    ///     kinds: &[1, 1 << 31, 1],
+    ///     small: &[1 << 24; 3],
+    ///     overflow: &[],
+    ///     storage: b"abcd",
+    /// };
+    /// let rows = strings.decode(3)?;
+    /// let identifiers: Vec<bool> = rows.iter().map(|row| row.is_identifier()).collect();
+    /// assert_eq!(identifiers, [false, true, false]);
+    ///
+    /// // Length 255 needs an overflow pair.
+    /// let long = Strings { small: &[1 << 24, 255 << 24], ..strings };
+    /// let refusal = long.decode(2).unwrap_err();
+    /// assert_eq!((refusal.number, refusal.place), (8, 1));
+    /// # Ok::<(), bisquepond::Refusal>(())
+    /// ```
+    pub fn decode(&self, count: u32) -> Result<Table<StringRow>, Refusal> {
+        let mut rows = Table::zeros(self.small.len().min(count as usize));
+        self.decode_into(count, &mut rows)?;
+        Ok(rows)
+    }
+}
+
+/// The bytes of string `index` of the rows: that part of the storage itself, empty where there is no such row, where it
+/// is marked invalid, and where it leaves the storage.
+///
+/// ```
+/// use bisquepond::{Row, table::{self, StringRow}};
+///
+/// let rows = StringRow::rows(&[1, 2, 0, 0, 3, 9, 0, 0]);
+/// assert_eq!(table::string_bytes(b"abcd", rows, 0), b"bc");
+/// assert_eq!(table::string_bytes(b"abcd", rows, 1), b"");
+/// assert_eq!(table::string_bytes(b"abcd", rows, 2), b"");
+/// ```
+pub fn string_bytes<'a>(storage: &'a [u8], rows: &[StringRow], index: usize) -> &'a [u8] {
+    boundary::string_bytes(storage, rows, index)
+}
+
+words! {
+    StringRow,
+    "# let strings = bisquepond::table::Strings { kinds: &[], small: &[1 | 1 << 1 | 1 << 24], overflow: &[], storage: b\"abcd\" };\nlet row = strings.decode(1)?[0];":
+    /// Where its bytes begin in the storage; 0 if it is invalid.
+    start = 0, "1";
+    /// How many bytes it has; 0 if it is invalid.
+    byte_len = 1, "2";
+}
+
+impl StringRow {
+    /// Whether its bytes lie in the storage.
+    ///
+    /// ```
+    /// # use bisquepond::{Row, table::StringRow};
+    /// assert!(StringRow::rows(&[3, 0, 0, 0])[0].is_valid());
+    /// assert!(!StringRow::rows(&[0, 0, 1, 0])[0].is_valid());
+    /// ```
+    pub const fn is_valid(&self) -> bool {
+        self.0[2] == 0
+    }
+
+    /// Whether its bytes are UTF-16.
+    ///
+    /// ```
+    /// # use bisquepond::{Row, table::StringRow};
+    /// assert!(StringRow::rows(&[0, 2, 0, 1])[0].is_utf16());
+    /// ```
+    pub const fn is_utf16(&self) -> bool {
+        self.0[3] & 1 != 0
+    }
+
+    /// Whether it is an identifier.
+    ///
+    /// ```
+    /// # use bisquepond::{Row, table::StringRow};
+    /// assert!(StringRow::rows(&[0, 2, 0, 2])[0].is_identifier());
+    /// ```
+    pub const fn is_identifier(&self) -> bool {
+        self.0[3] & 2 != 0
+    }
+
+    /// Its bytes, as [`string_bytes`] answers them.
+    ///
+    /// ```
+    /// # use bisquepond::{Row, table::StringRow};
+    /// assert_eq!(StringRow::rows(&[1, 2, 0, 0])[0].bytes(b"abcd"), b"bc");
+    /// ```
+    pub fn bytes<'a>(&self, storage: &'a [u8]) -> &'a [u8] {
+        string_bytes(storage, std::slice::from_ref(self), 0)
+    }
+}
+
+impl fmt::Debug for StringRow {
+    fn fmt(&self, f: &mut fmt::Formatter<'_>) -> fmt::Result {
+        f.debug_struct("StringRow")
+            .field("start", &self.start())
+            .field("byte_len", &self.byte_len())
+            .field("valid", &self.is_valid())
+            .field("utf16", &self.is_utf16())
+            .field("identifier", &self.is_identifier())
+            .finish()
+    }
+}

@@ -1,0 +1,605 @@
+//! The worked cases P1 to P10 with the two others, every refusal that can be made, and counts that the bytes do not bear
+//! out.
+
+use bisquepond::debug::{self, CalleeRow, LentTables, NameRow, ScopeRow, TextRow};
+use bisquepond::function::{self, FunctionRow, Rest};
+use bisquepond::io::ByteReader;
+use bisquepond::literal::{self, Literal, Objects};
+use bisquepond::parsing::{self, HandlerRow, SectionCounts};
+use bisquepond::table::{StringRow, Strings};
+use bisquepond::{Layout, Refusal, Row};
+
+const P1: [u8; 16] = [0, 1, 0, 4, 0x0A, 0x80, 1, 0, 0, 0, 0, 0x0A, 1, 2, 3, 4];
+const P2: [u8; 12] = [0, 1, 0, 0x44, 0x0A, 0xC0, 0, 0x29, 6, 7, 0x48, 4];
+
+/// The flag of a header that has a large one.
+const OVERFLOW: u8 = 0x20;
+
+/// A refusal's number and place, of a call that must be refused.
+fn refused<T: std::fmt::Debug>(answer: Result<T, Refusal>) -> (u32, u32) {
+    let refusal = answer.unwrap_err();
+    (refusal.number, refusal.place)
+}
+
+/// A file of so many zeros that begins with a header of that layout, flagged, whose fields pack a place.
+fn flagged(layout: Layout, len: usize, offset: u32, packed: u8) -> Vec<u8> {
+    let mut file = vec![0; len];
+    file[..4].copy_from_slice(&offset.to_le_bytes());
+    match layout {
+        // info_offset, from bit 64 on
+        Layout::Legacy16 => file[8] = packed,
+        // name, from bit 46 on
+        Layout::Modern12 => file[5..7].copy_from_slice(&[packed << 6, packed >> 2]),
+    }
+    file[layout.header_size() - 1] = OVERFLOW;
+    file
+}
+
+#[test]
+fn p1_a_legacy_header() {
+    let row = function::read_function(&P1, Layout::Legacy16, 0, 0).unwrap();
+    let words: Vec<u32> = row.fields().map(|(_, word)| word).collect();
+    assert_eq!(words, [0, 256, 2, 10, 3, 0, 5, 4, 1, 2, 3]);
+    assert_eq!(row.layout(), Layout::Legacy16);
+    let rest = Rest::Legacy16 {
+        environment_size: 1,
+        read_index: 2,
+        write_index: 3,
+    };
+    assert_eq!(row.rest(), rest);
+}
+
+#[test]
+fn p2_a_modern_header() {
+    let row = function::read_function(&P2, Layout::Modern12, 0, 0).unwrap();
+    assert_eq!((row.offset(), row.param_count(), row.size()), (256, 2, 10));
+    assert_eq!((row.name(), row.info_offset(), row.frame_size()), (3, 0, 6));
+    assert_eq!((row.flags(), row.layout()), (4, Layout::Modern12));
+    let rest = Rest::Modern12 {
+        loop_depth: 1,
+        number_reg: 4,
+        non_ptr_reg: 5,
+        read_cache: 7,
+        write_cache: 8,
+        new_object: 1,
+        private_name: 0,
+    };
+    assert_eq!(row.rest(), rest);
+}
+
+/// The large header is read at `place`, and the function meets its bytes and no others beyond its own header.
+fn large_at(layout: Layout, mut file: Vec<u8>, place: usize) {
+    file[place] = 9;
+    let row = function::read_function(&file, layout, 0, 0).unwrap();
+    assert_eq!(row.offset(), 9);
+    let end = place + layout.large_header_size();
+    let meets = |span| function::function_meets(&file, layout, 0, 0, span);
+    assert!(meets(place..place + 1) && meets(end - 1..end));
+    assert!(!meets(layout.header_size()..place) && !meets(end..file.len()));
+}
+
+#[test]
+fn p3_p4_packed_places() {
+    // Added, the parts would be 131088.
+    let legacy = flagged(Layout::Legacy16, 131_200, 65_552, 1);
+    large_at(Layout::Legacy16, legacy, 65_552);
+    let modern = flagged(Layout::Modern12, 16_777_300, 16_777_248, 1);
+    large_at(Layout::Modern12, modern, 16_777_248);
+}
+
+#[test]
+fn p5_large_headers_that_just_fit() {
+    for (layout, place, fits, info) in [
+        (Layout::Modern12, 12, 49, 52),
+        (Layout::Legacy16, 16, 47, 0),
+    ] {
+        let file = flagged(layout, fits, place, 0);
+        let table = function::read_functions(&file, layout, 0, 1).unwrap();
+        assert_eq!((table.len(), table[0].info_offset()), (1, info));
+        let cut = function::read_functions(&file[..fits - 1], layout, 0, 1);
+        assert_eq!(refused(cut), (3, 0));
+    }
+}
+
+#[test]
+fn p6_p7_strings() {
+    let p6 = Strings {
+        kinds: &[],
+        small: &[3 << 1, 4 << 1],
+        overflow: &[],
+        storage: b"abcd",
+    };
+    let rows = p6.decode(2).unwrap();
+    assert_eq!(rows.words(), [3, 0, 0, 0, 0, 0, 1, 0]);
+    let p7 = Strings {
+        kinds: &[1, 1 << 31, 1],
+        small: &[1 << 24; 3],
+        ..p6
+    };
+    let rows = p7.decode(3).unwrap();
+    assert!(!rows[0].is_identifier() && rows[1].is_identifier() && !rows[2].is_identifier());
+}
+
+#[test]
+fn p8_p9_series() {
+    let p8 = [0x72, 5, 0, 0, 0, 0xFF, 0xFF, 0xFF, 0xFF, 0x11];
+    let series = literal::read_series(&p8, 0, 3).unwrap();
+    let values = [
+        Literal::Integer(5),
+        Literal::Integer(-1),
+        Literal::Bool(true),
+    ];
+    assert_eq!((&series.values[..], series.used), (&values[..], &p8[..]));
+    let series = literal::read_series(&[0x81, 0x02], 0, 258).unwrap();
+    assert_eq!(
+        (series.values, series.used.len()),
+        (vec![Literal::Null; 258], 2)
+    );
+}
+
+#[test]
+fn p10_sleb128() {
+    let read = |bytes: &[u8]| ByteReader::new(bytes).read_sleb128().unwrap();
+    assert_eq!((read(&[0x80, 0x7F]), read(&[0x40])), (-128, -64));
+    assert_eq!(read(&[[0x80; 9].as_slice(), &[2]].concat()), 0);
+}
+
+#[test]
+fn a_cut_handler_and_a_padding_past_the_end() {
+    let mut file = [0; 64];
+    file[48] = 2;
+    let functions = FunctionRow::rows(&[0, 0, 0, 0, 0, 0, 45, 0, 8, 0, 0, 0, 0, 0, 0, 0]);
+    assert!(
+        parsing::read_handlers(&file, functions, 1)
+            .unwrap()
+            .is_empty()
+    );
+    let counts = SectionCounts {
+        storage: 1,
+        ..SectionCounts::default()
+    };
+    assert_eq!(
+        refused(parsing::trailing_sections(&[0; 10], 8, counts)),
+        (2, 0)
+    );
+}
+
+#[test]
+fn every_kind_of_literal() {
+    let bytes = [
+        &[0x01, 0x11, 0x21, 0x31][..],
+        &1.5f64.to_le_bytes(),
+        &[
+            0x41, 1, 0, 1, 0, 0x51, 2, 1, 0x61, 3, 0x71, 0xFE, 0xFF, 0xFF, 0xFF,
+        ],
+    ]
+    .concat();
+    let values = [
+        Literal::Null,
+        Literal::Bool(true),
+        Literal::Bool(false),
+        Literal::Number(1.5),
+        Literal::String(65_537),
+        Literal::String(258),
+        Literal::String(3),
+        Literal::Integer(-2),
+    ];
+    let series = literal::read_series(&bytes, 0, 8).unwrap();
+    assert_eq!((&series.values[..], series.used), (&values[..], &bytes[..]));
+    // A NaN of a series keeps its bits.
+    let nan = [&[0x31][..], &0x7FF0_0000_0000_0001u64.to_le_bytes()].concat();
+    let Literal::Number(read) = literal::read_series(&nan, 0, 1).unwrap().values[0] else {
+        panic!("not a number");
+    };
+    assert_eq!(read.to_bits(), 0x7FF0_0000_0000_0001);
+}
+
+#[test]
+fn one_literal_of_every_tag() {
+    let bytes = [0xFE, 0xFF, 0xFF, 0xFF, 0, 0, 0xF8, 0x3F];
+    let read = |tag: u8| {
+        let mut reader = ByteReader::new(&bytes);
+        (reader.read_literal(tag).unwrap(), reader.position())
+    };
+    assert_eq!(read(0x0F), (Literal::Null, 0));
+    assert_eq!(read(0x91), (Literal::Bool(true), 0));
+    assert_eq!(read(0x20), (Literal::Bool(false), 0));
+    assert_eq!(read(0x30), (Literal::Number(f64::from_le_bytes(bytes)), 8));
+    assert_eq!(read(0x40), (Literal::String(0xFFFF_FFFE), 4));
+    assert_eq!(read(0x50), (Literal::String(0xFFFE), 2));
+    assert_eq!(read(0x60), (Literal::String(0xFE), 1));
+    assert_eq!(read(0x70), (Literal::Integer(-2), 4));
+}
+
+#[test]
+fn the_part_that_is_used_is_the_chosen_buffers_own() {
+    let objects = Objects {
+        keys: &[9, 0x61, 7, 9],
+        values: &[9, 9, 0x71, 1, 0, 0, 0],
+    };
+    let keys = objects.keys(1, 1).unwrap();
+    assert!(std::ptr::eq(keys.used, &objects.keys[1..3]));
+    let values = objects.values(2, 1).unwrap();
+    assert!(std::ptr::eq(values.used, &objects.values[2..]));
+    // For count 0 the empty beginning, at any offset.
+    let none = objects.values(77, 0).unwrap();
+    assert!(std::ptr::eq(none.used, &objects.values[..0]));
+    assert_eq!(refused(objects.keys(4, 1)), (7, 0));
+}
+
+#[test]
+fn refused_1_above_2_to_the_30() {
+    let long = vec![0; (1 << 30) + 1];
+    assert_eq!(refused(ByteReader::new(&long).read_u8()), (1, 0));
+    assert_eq!(refused(ByteReader::new(&long).align(0)), (1, 0));
+    assert_eq!(refused(ByteReader::new(&long).read_u32_table(1)), (1, 0));
+    assert_eq!(refused(literal::read_series(&long, 0, 0)), (1, 0));
+    for count in [0, 1, u32::MAX] {
+        assert_eq!(
+            refused(function::read_functions(&long, Layout::Legacy16, 0, count)),
+            (1, 0)
+        );
+    }
+    assert_eq!(refused(parsing::read_handlers(&long, &[], 1)), (1, 0));
+    assert_eq!(
+        refused(parsing::read_handlers(&long, &[FunctionRow::default()], 1)),
+        (1, 0)
+    );
+    assert_eq!(
+        refused(parsing::trailing_sections(
+            &long,
+            0,
+            SectionCounts::default()
+        )),
+        (1, 0)
+    );
+    assert_eq!(refused(debug::read_debug(&long, 0)), (1, 0));
+    let strings = Strings {
+        kinds: &[],
+        small: &[],
+        overflow: &[],
+        storage: &long,
+    };
+    assert_eq!(refused(strings.decode(0)), (1, 0));
+    assert!(!function::function_meets(
+        &long,
+        Layout::Legacy16,
+        0,
+        0,
+        0..16
+    ));
+}
+
+#[test]
+fn refused_2_past_the_end() {
+    assert_eq!(refused(ByteReader::new(&[1]).seek(2)), (2, 0));
+    assert_eq!(refused(ByteReader::at(&[1], 1).align(2)), (2, 0));
+    assert_eq!(refused(ByteReader::at(&[1], 2).read_bytes(0)), (2, 0));
+    assert_eq!(
+        refused(ByteReader::at(&[1], usize::MAX).read_u32_table(0)),
+        (2, 0)
+    );
+    for count in [0, 1, u32::MAX] {
+        assert_eq!(
+            refused(function::read_functions(&P1, Layout::Legacy16, 17, count)),
+            (2, 0)
+        );
+    }
+    // The second function's large header would begin past the end.
+    let file = [&P1[..], &flagged(Layout::Legacy16, 16, 33, 0)].concat();
+    assert_eq!(
+        refused(function::read_functions(&file, Layout::Legacy16, 0, 2)),
+        (2, 1)
+    );
+    assert_eq!(
+        refused(function::read_functions(
+            &file,
+            Layout::Legacy16,
+            0,
+            u32::MAX
+        )),
+        (2, 1)
+    );
+}
+
+#[test]
+fn refused_3_cut() {
+    assert_eq!(refused(ByteReader::new(&[1]).read_u16()), (3, 0));
+    assert_eq!(
+        refused(ByteReader::new(&[1]).read_bytes(usize::MAX)),
+        (3, 0)
+    );
+    let mut reader = ByteReader::new(&[0x80, 0x80]);
+    assert_eq!(
+        (refused(reader.read_uleb128()), reader.position()),
+        ((3, 0), 2)
+    );
+    assert_eq!(refused(ByteReader::new(&[0; 11]).read_u32_table(3)), (3, 2));
+    assert_eq!(
+        refused(ByteReader::new(&[0; 15]).read_pair_table(2)),
+        (3, 1)
+    );
+    assert_eq!(refused(literal::read_series(&[0x62, 1], 0, 2)), (3, 1));
+    assert_eq!(refused(debug::read_debug(&[0; 28], 1)), (3, 0));
+    let counts = SectionCounts {
+        regexps: 1,
+        ..SectionCounts::default()
+    };
+    assert_eq!(
+        refused(parsing::trailing_sections(&[0; 7], 0, counts)),
+        (3, 0)
+    );
+}
+
+#[test]
+fn refused_4_leaves_every_row() {
+    let kept = FunctionRow::rows(&[7; 32]);
+    let mut rows = [kept[0], kept[1]];
+    let two = function::read_functions_into(&[0; 48], Layout::Legacy16, 0, 3, &mut rows);
+    assert_eq!(refused(two), (4, 0));
+    let two = function::refresh_functions(&[0; 48], Layout::Legacy16, 0, 3, 0..1, &mut rows);
+    assert_eq!((refused(two), &rows[..]), ((4, 0), kept));
+    let mut words = [7; 2];
+    let three = ByteReader::new(&[0; 12]).read_u32_table_into(3, &mut words);
+    assert_eq!((refused(three), words), ((4, 0), [7; 2]));
+    let (mut kinds, mut payloads) = ([7; 2], [7; 1]);
+    let two = literal::read_series_into(&[0x12], 0, 2, &mut kinds, &mut payloads);
+    assert_eq!(refused(two), (4, 0));
+    assert_eq!((kinds, payloads), ([7; 2], [7; 1]));
+}
+
+#[test]
+fn refused_5_6_7_9_10_11() {
+    let mut reader = ByteReader::new(&[0x80; 12]);
+    assert_eq!(
+        (refused(reader.read_uleb128()), reader.position()),
+        ((5, 0), 10)
+    );
+    assert_eq!(refused(ByteReader::new(&[0x80; 12]).read_sleb128()), (5, 0));
+    assert_eq!(refused(ByteReader::at(&[], 9).align(0)), (6, 0));
+    assert_eq!(refused(literal::read_series(&[0x01], 1, 1)), (7, 0));
+    let mut reader = ByteReader::new(b"ab");
+    assert_eq!(
+        (refused(reader.read_cstring()), reader.position()),
+        ((9, 0), 2)
+    );
+    let mut table = function::read_functions(&P1, Layout::Legacy16, 0, 1).unwrap();
+    let before = table.clone();
+    let reversed = std::ops::Range { start: 3, end: 2 };
+    assert_eq!(refused(table.refresh(&P1, reversed)), (10, 0));
+    assert_eq!(refused(table.refresh(&P1, 0..17)), (10, 0));
+    assert_eq!(table, before);
+    assert_eq!(refused(parsing::read_handlers(&P1, &table, 2)), (11, 0));
+}
+
+#[test]
+fn refused_8_no_pair_is_left() {
+    let strings = Strings {
+        kinds: &[],
+        small: &[255 << 24, 255 << 24],
+        overflow: &[[0, 1]],
+        storage: b"a",
+    };
+    let refusal = strings.decode(2).unwrap_err();
+    assert_eq!((refusal.number, refusal.place), (8, 1));
+    assert_eq!(
+        refusal.to_string(),
+        "refused 8 at 1: string 1 needs an overflow entry and none is left"
+    );
+    let mut rows = [StringRow::default(); 1];
+    assert_eq!(strings.decode_into(1, &mut rows).unwrap()[0].byte_len(), 1);
+}
+
+/// A count that the bytes do not bear out is refused as the lent form refuses it, and costs no memory.
+#[test]
+fn counts_of_any_size() {
+    for layout in [Layout::Legacy16, Layout::Modern12] {
+        let file = vec![0; layout.header_size() * 5 + 3];
+        for count in [6, 7, 1 << 20, u32::MAX] {
+            assert_eq!(
+                refused(function::read_functions(&file, layout, 0, count)),
+                (3, 5)
+            );
+            assert_eq!(
+                refused(function::read_functions(&file, layout, 3, count)),
+                (3, 5)
+            );
+            assert_eq!(
+                refused(function::read_functions(&file, layout, 4, count)),
+                (3, 4)
+            );
+        }
+        assert_eq!(
+            function::read_functions(&file, layout, 3, 5).unwrap().len(),
+            5
+        );
+    }
+    for count in [3, 4, u32::MAX] {
+        assert_eq!(
+            refused(ByteReader::new(&[0; 11]).read_u32_table(count)),
+            (3, 2)
+        );
+        assert_eq!(
+            refused(ByteReader::new(&[0; 23]).read_pair_table(count)),
+            (3, 2)
+        );
+        assert_eq!(refused(literal::read_series(&[0x12], 0, count)), (3, 2));
+    }
+}
+
+/// Tables that are read in more than one go are as those that are read in one.
+#[test]
+fn series_longer_than_the_first_go() {
+    for count in [4095u32, 4096, 4097, 8192, 8193, 20_000] {
+        // Tags of 1000 string numbers of two bytes each, then what is left.
+        let mut bytes = Vec::new();
+        for begin in (0..count).step_by(1000) {
+            let run = (count - begin).min(1000);
+            bytes.extend([0xD0 | (run >> 8) as u8, run as u8]);
+            bytes.extend((begin..begin + run).flat_map(|i| (i as u16).to_le_bytes()));
+        }
+        let series = literal::read_series(&bytes, 0, count).unwrap();
+        assert_eq!(series.used, bytes);
+        assert!(
+            series
+                .values
+                .iter()
+                .copied()
+                .eq((0..count).map(Literal::String))
+        );
+        let cut = literal::read_series(&bytes[..bytes.len() - 1], 0, count);
+        assert_eq!(refused(cut), (3, count - 1));
+        let (mut kinds, mut payloads) = (vec![0; 20_000], vec![0; 20_000]);
+        let lent = literal::read_series_into(&bytes, 0, count, &mut kinds, &mut payloads).unwrap();
+        assert!(lent.values.eq(series.values) && lent.used == bytes);
+    }
+}
+
+#[test]
+fn handlers_that_functions_share() {
+    // 1000 handlers, the most that a function can have, at byte 4.
+    let mut file = vec![0; 8 + 12_000];
+    file[4..8].copy_from_slice(&1000u32.to_le_bytes());
+    for (i, handler) in file[8..].chunks_exact_mut(12).enumerate() {
+        handler[..4].copy_from_slice(&(i as u32).to_le_bytes());
+    }
+    let row = |flags| [0, 9, 0, 0, 0, 0, 4, 0, flags, 0, 0, 0, 0, 0, 0, 0];
+    let words = [row(8), row(0), row(8)].concat();
+    let functions = FunctionRow::rows(&words);
+    let handlers = parsing::read_handlers(&file, functions, 3).unwrap();
+    assert_eq!(handlers.len(), 2000);
+    assert_eq!((handlers[999].function(), handlers[999].start()), (0, 999));
+    assert_eq!((handlers[1000].function(), handlers[1000].start()), (2, 0));
+    // Exactly so many rows are needed.
+    let mut rows = vec![HandlerRow::default(); 2000];
+    assert_eq!(
+        parsing::read_handlers_into(&file, functions, 3, &mut rows).unwrap(),
+        &handlers[..]
+    );
+    assert_eq!(
+        refused(parsing::read_handlers_into(
+            &file,
+            functions,
+            3,
+            &mut rows[..1999]
+        )),
+        (4, 0)
+    );
+}
+
+/// A debug section at byte 1 of these three parts.
+fn section(scopes: &[u8], callees: &[u8], strings: &[u8]) -> Vec<u8> {
+    let (a, b) = (scopes.len(), scopes.len() + callees.len());
+    let words = [0, 0, 0, 0, a, b, b + strings.len()];
+    let mut file = vec![0];
+    file.extend(
+        words
+            .into_iter()
+            .flat_map(|word| (word as u32).to_le_bytes()),
+    );
+    [&file[..], scopes, callees, strings].concat()
+}
+
+#[test]
+fn debug_sections_of_any_size() {
+    for n in [0, 1, 63, 64, 65, 5_000] {
+        // As many rows as there can be for the bytes: empty strings, and scopes without names.
+        let file = section(&vec![0; 3 * n], &[], &vec![0; n]);
+        let debug = debug::read_debug(&file, 1).unwrap();
+        assert_eq!((debug.strings.len(), debug.scopes.len()), (n, n));
+        assert_eq!((debug.names.len(), debug.callees.len()), (0, 0));
+        let (mut strings, mut scopes) = (vec![TextRow::default(); n], vec![ScopeRow::default(); n]);
+        let mut lent = LentTables {
+            strings: &mut strings,
+            scopes: &mut scopes,
+            names: &mut [],
+            callees: &mut [],
+        };
+        assert_eq!(
+            debug::read_debug_into(&file, 1, &mut lent).unwrap(),
+            debug.rows()
+        );
+        if n > 0 {
+            lent.strings = &mut [];
+            assert_eq!(refused(debug::read_debug_into(&file, 1, &mut lent)), (4, 0));
+        }
+    }
+    // One scope of many names, and names that are not there.
+    let names = vec![0; 2_000];
+    let count = [0xD0, 0x0F];
+    let file = section(
+        &[&[0x7F, 3][..], &count, &names].concat(),
+        &[1, 5, 0],
+        b"\x01x",
+    );
+    let debug = debug::read_debug(&file, 1).unwrap();
+    let rows = debug.rows();
+    assert_eq!((rows.scopes[0].flags(), rows.scopes[0].parent()), (3, None));
+    assert_eq!(rows.names_of(0).len(), 2_000);
+    assert!(rows.names_of(0).iter().all(|name| name.string() == Some(0)));
+    assert_eq!(
+        (rows.callees[0].address(), rows.callees[0].string()),
+        (5, 0)
+    );
+    assert_eq!(rows.strings[0].bytes(&file), b"x");
+    for offset in [0, u32::MAX, file.len() as u32] {
+        let none = debug::read_debug(&file, offset).unwrap();
+        assert!(none.rows().strings.is_empty() && none.rows().scopes.is_empty());
+    }
+}
+
+/// Rows and words are the same memory, in both directions.
+#[test]
+fn rows_are_words() {
+    let mut words: Vec<u32> = (0..13).collect();
+    assert_eq!(HandlerRow::rows(&words).len(), 3);
+    assert_eq!(HandlerRow::rows(&words)[2].target(), 11);
+    let last = HandlerRow::rows(&words)[2];
+    HandlerRow::rows_mut(&mut words)[0] = last;
+    assert_eq!(words, [8, 9, 10, 11, 4, 5, 6, 7, 8, 9, 10, 11, 12]);
+    assert!(ScopeRow::rows(&[1, 2, 3, 4]).is_empty() && CalleeRow::rows(&[]).is_empty());
+    let sizes = [
+        FunctionRow::WORDS,
+        StringRow::WORDS,
+        HandlerRow::WORDS,
+        TextRow::WORDS,
+    ];
+    assert_eq!(sizes, [16, 4, 4, 2]);
+    assert_eq!(
+        [ScopeRow::WORDS, NameRow::WORDS, CalleeRow::WORDS],
+        [5, 1, 2]
+    );
+}
+
+/// A table that follows edits is what a fresh read gives, edit after edit, and names each function that was met.
+#[test]
+fn a_refresh_is_a_fresh_read() {
+    let layout = Layout::Legacy16;
+    // Three functions; the second one's large header is far from the table.
+    let mut file = [&P1[..], &flagged(layout, 16, 4_000, 0), &P1].concat();
+    file.resize(4_031, 0);
+    let mut table = function::read_functions(&file, layout, 0, 3).unwrap();
+    for (at, byte, met) in [
+        (4_008, 77, 1),
+        (3_999, 77, 0),
+        (0, 5, 1),
+        (20, 1, 1),
+        // the flag of the third, whose place is then 256: its header was there already
+        (47, OVERFLOW, 1),
+        (256, 3, 1),
+    ] {
+        let met_by = (0..3).filter(|&id| {
+            let before = function::function_meets(&file, layout, 0, id, at..at + 1);
+            let mut after = file.clone();
+            after[at] = byte;
+            before || function::function_meets(&after, layout, 0, id, at..at + 1)
+        });
+        assert_eq!(met_by.count(), met);
+        file[at] = byte;
+        assert_eq!(table.refresh(&file, at..at + 1).unwrap(), met as u32);
+        assert_eq!(
+            table,
+            function::read_functions(&file, layout, 0, 3).unwrap()
+        );
+    }
+}
