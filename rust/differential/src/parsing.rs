@@ -1,6 +1,7 @@
 //! Handlers and trailing sections: parsing.rs of the published Rust, in part, beside the calls of libhbc_c.a.
 
 mod handlers;
+pub mod hostile;
 pub mod record;
 mod sections;
 
