@@ -3,6 +3,7 @@
 mod groups;
 pub mod hostile;
 mod literal;
+pub mod record;
 mod series;
 
 pub use groups::compare;

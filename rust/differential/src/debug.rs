@@ -3,7 +3,7 @@
 mod groups;
 pub mod hostile;
 
-pub use groups::compare;
+pub use groups::{compare, record};
 
 use bisquepond::sys::hbc_read_debug;
 use published::debug::DebugInfo;

@@ -2,6 +2,7 @@
 
 mod groups;
 pub mod hostile;
+pub mod record;
 
 pub use groups::compare;
 

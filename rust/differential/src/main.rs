@@ -20,6 +20,8 @@ mod meter;
 #[cfg(published)]
 mod parsing;
 #[cfg(published)]
+mod record;
+#[cfg(published)]
 mod run;
 #[cfg(published)]
 mod search;
@@ -45,35 +47,35 @@ fn main() -> ExitCode {
             name: "table",
             compare: table::compare,
             hostile: table::hostile::soak,
-            record: None,
+            record: Some(table::record::write),
             replay: table::replay,
         },
         Layer {
             name: "buffer",
             compare: buffer::compare,
             hostile: buffer::hostile::soak,
-            record: None,
+            record: Some(buffer::record::write),
             replay: buffer::replay,
         },
         Layer {
             name: "function",
             compare: function::compare,
             hostile: function::hostile::soak,
-            record: None,
+            record: Some(function::record::write),
             replay: function::replay,
         },
         Layer {
             name: "parsing",
             compare: parsing::compare,
             hostile: parsing::hostile::soak,
-            record: None,
+            record: Some(parsing::record::write),
             replay: parsing::replay,
         },
         Layer {
             name: "debug",
             compare: debug::compare,
             hostile: debug::hostile::soak,
-            record: None,
+            record: Some(debug::record::write),
             replay: debug::replay,
         },
     ])

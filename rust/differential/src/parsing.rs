@@ -2,6 +2,7 @@
 
 mod handlers;
 pub mod hostile;
+pub mod record;
 mod sections;
 
 use crate::run::{Difference, Run};

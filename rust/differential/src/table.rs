@@ -3,6 +3,7 @@
 mod groups;
 pub mod hostile;
 mod reads;
+pub mod record;
 mod strings;
 
 pub use groups::compare;

@@ -190,10 +190,10 @@ fn some_three(run: &mut Run) -> Compared {
 }
 
 /// Bytes of a value, by bits 4 to 6 of its tag.
-const WIDTHS: [usize; 8] = [0, 0, 0, 8, 4, 2, 1, 4];
+pub const WIDTHS: [usize; 8] = [0, 0, 0, 8, 4, 2, 1, 4];
 
 /// A tag, in one byte where its length goes into a nibble and `long` is not asked for.
-fn push_tag(buffer: &mut Vec<u8>, bits: u8, length: usize, long: bool) {
+pub fn push_tag(buffer: &mut Vec<u8>, bits: u8, length: usize, long: bool) {
     assert!(length < 4096);
     if long || length > 15 {
         buffer.extend([0x80 | bits << 4 | (length >> 8) as u8, length as u8]);
@@ -229,7 +229,7 @@ fn every_run(run: &mut Run) -> Compared {
 }
 
 /// Runs of every kind, short and empty ones between, and how many values they have.
-fn any_runs(random: &mut Random, runs: usize) -> (Vec<u8>, usize) {
+pub fn any_runs(random: &mut Random, runs: usize) -> (Vec<u8>, usize) {
     let mut buffer = Vec::new();
     let mut values = 0;
     for _ in 0..runs {

@@ -20,13 +20,13 @@ pub struct Case<'a> {
 
 /// The answer, the cursor, and what the three lent numbers hold; a NaN is one value.
 #[derive(PartialEq, Eq)]
-struct Answer {
-    number: u32,
+pub struct Answer {
+    pub number: u32,
     place: u32,
-    at: usize,
-    kind: u32,
-    float: u64,
-    word: u32,
+    pub at: usize,
+    pub kind: u32,
+    pub float: u64,
+    pub word: u32,
 }
 
 /// What the lent numbers hold before a call.
@@ -76,7 +76,7 @@ impl Case<'_> {
     }
 
     /// What the Rust answers; where its reader can't stand, what document 01 says.
-    fn expected(&self) -> Answer {
+    pub fn expected(&self) -> Answer {
         let mut answer = Answer {
             number: 0,
             place: 0,

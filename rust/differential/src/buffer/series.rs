@@ -38,12 +38,12 @@ const OTHER: [u8; 64] = [0x11; 64];
 
 /// What the calls must answer, and the values that then stand in the tables.
 #[derive(Default)]
-struct Expected {
-    number: u32,
+pub struct Expected {
+    pub number: u32,
     /// The refusal's place, or the bytes used.
-    place: u32,
-    kinds: Vec<u32>,
-    payloads: Vec<u64>,
+    pub place: u32,
+    pub kinds: Vec<u32>,
+    pub payloads: Vec<u64>,
 }
 
 impl Case<'_> {
@@ -97,7 +97,7 @@ impl Case<'_> {
 
     /// What the Rust answers, and what it doesn't say: how many bytes the values take (with one fewer it refuses), and
     /// how many values come before the cut (one more it refuses). The limit and the lent tables are document 01's.
-    fn expected(&self, guess: u32) -> Expected {
+    pub fn expected(&self, guess: u32) -> Expected {
         let refused = |number, place| Expected {
             number,
             place,

@@ -3,6 +3,7 @@
 mod differences;
 mod large;
 mod lists;
+pub mod record;
 
 use harness::Random;
 

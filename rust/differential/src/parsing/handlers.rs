@@ -16,9 +16,9 @@ use crate::words::{
 type Compared = Result<(), Difference>;
 
 /// The words of a function's row, and those of them that are read.
-const FUNCTION: usize = 16;
-const INFO_OFFSET: usize = 6;
-const FLAGS: usize = 8;
+pub const FUNCTION: usize = 16;
+pub const INFO_OFFSET: usize = 6;
+pub const FLAGS: usize = 8;
 
 /// The words of a handler's row.
 pub const ROW: usize = 4;
@@ -92,7 +92,7 @@ pub fn published(file: &[u8], functions: &[u32]) -> Vec<[u32; ROW]> {
 }
 
 /// What is right: the handlers by the Rust, the refusals by document 01.
-fn right(case: &Case) -> Result<Vec<[u32; ROW]>, Refusal> {
+pub fn right(case: &Case) -> Result<Vec<[u32; ROW]>, Refusal> {
     if case.file.len() > LIMIT {
         return Err((1, 0));
     }

@@ -106,7 +106,7 @@ pub fn published(case: &Case) -> Result<Found, Refusal> {
 }
 
 /// What is right: the sections by the Rust, 1 and 4 by document 01.
-fn right(case: &Case) -> Result<Found, Refusal> {
+pub fn right(case: &Case) -> Result<Found, Refusal> {
     if case.file.len() > LIMIT {
         return Err((1, 0));
     }

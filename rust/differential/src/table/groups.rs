@@ -224,9 +224,9 @@ fn longest_file(run: &mut Run) -> Compared {
     Ok(())
 }
 
-const IDENTIFIER: u32 = 1 << 31;
+pub const IDENTIFIER: u32 = 1 << 31;
 
-fn small(utf16: bool, offset: u32, length: u32) -> u32 {
+pub fn small(utf16: bool, offset: u32, length: u32) -> u32 {
     assert!(offset < 1 << 23 && length < 256);
     utf16 as u32 | offset << 1 | length << 24
 }
@@ -608,7 +608,7 @@ fn random(run: &mut Run) -> Compared {
     while run.more() {
         any_read(run, &mut random)?;
         for _ in 0..4 {
-            any_strings(run, &mut random)?;
+            decode(run, any_case(&mut random).case())?;
         }
     }
     Ok(())
@@ -643,9 +643,32 @@ fn any_read(run: &mut Run, random: &mut Random) -> Compared {
     Ok(())
 }
 
+/// What a case of strings is made of.
+pub struct Made {
+    count: u32,
+    kinds: Vec<u32>,
+    entries: Vec<u32>,
+    pairs: Vec<u32>,
+    storage: Vec<u8>,
+    lent: usize,
+}
+
+impl Made {
+    pub fn case(&self) -> strings::Case<'_> {
+        strings::Case {
+            count: self.count,
+            kinds: &self.kinds,
+            small: &self.entries,
+            overflow: &self.pairs,
+            storage: &self.storage,
+            lent: self.lent,
+        }
+    }
+}
+
 /// Up to 24 strings of a storage of up to 300 bytes: text of one to four bytes a letter, UTF-16 with surrogates, or
 /// any bytes. Most strings end in the storage, and most pairs are there.
-fn any_strings(run: &mut Run, random: &mut Random) -> Compared {
+pub fn any_case(random: &mut Random) -> Made {
     let storage = any_storage(random);
     let strings = random.below(25);
     let mut pairs = Vec::new();
@@ -682,17 +705,14 @@ fn any_strings(run: &mut Run, random: &mut Random) -> Compared {
         0 => random.below(strings * ROW + 1),
         _ => strings * ROW + random.below(9),
     };
-    decode(
-        run,
-        strings::Case {
-            count,
-            kinds: &kinds,
-            small: &entries,
-            overflow: &pairs,
-            storage: &storage,
-            lent,
-        },
-    )
+    Made {
+        count,
+        kinds,
+        entries,
+        pairs,
+        storage,
+        lent,
+    }
 }
 
 fn any_storage(random: &mut Random) -> Vec<u8> {

@@ -83,10 +83,10 @@ pub struct Case<'a> {
 }
 
 #[derive(PartialEq, Eq)]
-struct Answer {
-    number: u32,
-    place: u32,
-    at: usize,
+pub struct Answer {
+    pub number: u32,
+    pub place: u32,
+    pub at: usize,
 }
 
 impl Answer {
@@ -144,6 +144,17 @@ impl Case<'_> {
         (Answer { number, place, at }, words)
     }
 
+    /// What is right, and the words read: document 01's where that refuses at once, else what all of the Rust's readers
+    /// answer. They differ in the types they fill alone; of a great table one is enough.
+    pub fn right(&self) -> Vec<(Answer, Vec<u32>)> {
+        if let Some(answer) = self.refused_at_once() {
+            return vec![(answer, Vec::new())];
+        }
+        let most = if self.count > 1 << 20 { 1 } else { 4 };
+        let readers = self.op.readers().iter().take(most);
+        readers.map(|&read| self.rust(read)).collect()
+    }
+
     /// Compares with the Rust, and where document 01 refuses at once, with that.
     pub fn compare(&self) -> Result<(), Difference> {
         let mut table = Lent::new(self.lent);
@@ -155,13 +166,7 @@ impl Case<'_> {
             let held = table.holds(words);
             held.map_err(|wrong| self.difference(&expected, wrong))
         };
-        if let Some(expected) = self.refused_at_once() {
-            return same(expected, &[]);
-        }
-        // The readers differ in the types they fill alone; of a great table one is enough.
-        let most = if self.count > 1 << 20 { 1 } else { 4 };
-        for &read in self.op.readers().iter().take(most) {
-            let (expected, words) = self.rust(read);
+        for (expected, words) in self.right() {
             same(expected, &words)?;
         }
         Ok(())

@@ -101,8 +101,45 @@ impl Case<'_> {
         small.iter().map(span).collect()
     }
 
-    /// Compares with the Rust: which strings there are, their marks and their texts. What the Rust doesn't refuse or
-    /// tell is compared with document 01.
+    /// What is right: the words of the rows, with what the Rust made of them, or the refusal. What the Rust doesn't refuse
+    /// or tell is document 01's.
+    pub fn right(&self, guess: u32) -> Result<(Vec<u32>, Vec<StringTableEntry>), (u32, u32)> {
+        if self.storage.len() > LIMIT {
+            return Err((1, 0));
+        }
+        if self.lent / ROW < self.strings() {
+            return Err((4, 0));
+        }
+        let runs = runs(self.kinds);
+        let texts = rust(self, &runs, self.count).map_err(|error| {
+            missing(error);
+            (8, self.first_missing(&runs, guess))
+        })?;
+        let mut words = Vec::with_capacity(texts.len() * ROW);
+        for (span, text) in self.spans().iter().zip(&texts) {
+            words.extend(span);
+            let identifier = if text.is_identifier { IDENTIFIER } else { 0 };
+            words.push(identifier + text.is_utf16 as u32 * UTF16);
+        }
+        Ok((words, texts))
+    }
+
+    /// Whether the bytes that a row names read as the Rust's text, or what is wrong.
+    pub fn reads(&self, i: usize, row: &[u32], text: &StringTableEntry) -> Result<(), String> {
+        let [start, len] = [row[0], row[1]].map(|word| word as usize);
+        let ours = match (row[2], text.is_utf16) {
+            (0, utf16) => text_of(&self.storage[start..start + len], utf16),
+            (_, true) => "<invalid utf16>".to_string(),
+            (_, false) => "<invalid utf8>".to_string(),
+        };
+        if ours != text.value {
+            let text = &text.value;
+            return Err(format!("string {i} reads {ours:?}, in the Rust {text:?}"));
+        }
+        Ok(())
+    }
+
+    /// Compares with the Rust: which strings there are, their marks and their texts.
     pub fn compare(&self) -> Result<(), Difference> {
         let mut rows = Lent::new(self.lent);
         let code = self.call(&mut rows);
@@ -114,43 +151,16 @@ impl Case<'_> {
             let held = rows.holds(words);
             held.map_err(|wrong| self.difference(number, place, wrong))
         };
-        if self.storage.len() > LIMIT {
-            return same(1, 0, &[]);
-        }
-        if self.lent / ROW < self.strings() {
-            return same(4, 0, &[]);
-        }
-        let runs = runs(self.kinds);
-        let texts = match rust(self, &runs, self.count) {
-            Ok(texts) => texts,
-            Err(error) => {
-                missing(error);
-                return same(
-                    8,
-                    self.first_missing(&runs, bisquepond::sys::place(code)),
-                    &[],
-                );
-            }
+        let (words, texts) = match self.right(bisquepond::sys::place(code)) {
+            Ok(right) => right,
+            Err((number, place)) => return same(number, place, &[]),
         };
-        let mut words = Vec::with_capacity(texts.len() * ROW);
-        for (span, text) in self.spans().iter().zip(&texts) {
-            words.extend(span);
-            let identifier = if text.is_identifier { IDENTIFIER } else { 0 };
-            words.push(identifier + text.is_utf16 as u32 * UTF16);
-        }
-        same(0, texts.len() as u32, &words)?;
+        let all = texts.len() as u32;
+        same(0, all, &words)?;
         for (i, (text, row)) in texts.iter().zip(words.chunks(ROW)).enumerate() {
             compare_bytes(self.storage, rows.words(), i)?;
-            let [start, len] = [row[0], row[1]].map(|word| word as usize);
-            let ours = match (row[2], text.is_utf16) {
-                (0, utf16) => text_of(&self.storage[start..start + len], utf16),
-                (_, true) => "<invalid utf16>".to_string(),
-                (_, false) => "<invalid utf8>".to_string(),
-            };
-            if ours != text.value {
-                let wrong = format!("string {i} reads {ours:?}, in the Rust {:?}", text.value);
-                return Err(self.difference(0, texts.len() as u32, wrong));
-            }
+            let read = self.reads(i, row, text);
+            read.map_err(|wrong| self.difference(0, all, wrong))?;
         }
         Ok(())
     }
@@ -223,14 +233,19 @@ fn string_bytes(storage: &[u8], rows: &[u32], index: usize) -> (usize, usize) {
     (start, len)
 }
 
-/// Compares the part that a row names, whatever the row holds, with document 01: the Rust has no such call.
-pub fn compare_bytes(storage: &[u8], rows: &[u32], index: usize) -> Result<(), Difference> {
-    let expected = match rows.chunks_exact(ROW).nth(index) {
+/// Start and length of the part that a row names, by document 01: the Rust has no such call.
+pub fn right_bytes(storage: &[u8], rows: &[u32], index: usize) -> (usize, usize) {
+    match rows.chunks_exact(ROW).nth(index) {
         Some(&[start, len, 0, _]) if start as u64 + len as u64 <= storage.len() as u64 => {
             (start as usize, len as usize)
         }
         _ => (0, 0),
-    };
+    }
+}
+
+/// Compares the part that a row names, whatever the row holds, with document 01.
+pub fn compare_bytes(storage: &[u8], rows: &[u32], index: usize) -> Result<(), Difference> {
+    let expected = right_bytes(storage, rows, index);
     let given = string_bytes(storage, rows, index);
     if given == expected {
         return Ok(());

@@ -1,0 +1,54 @@
+use Prim.Native.Nat.{_-_, _≤_}
+use lib.ListN.{length}
+use borrow.Author.Needs.{needs}
+use Rattle.vectors.proofs.holds_longs.Statement.{statement}
+use Rattle.vectors.proofs.holds_longs.Tie as tie
+
+abbrev Inv-loop : tie.InvT-loop
+Inv-loop s at table n same₀ next₀ i₀ same next i = i ≤ length table
+
+abbrev μ-loop : tie.MeasureT-loop
+μ-loop s at table n same₀ next₀ i₀ same next i = length table - i
+
+number-at-requires : tie.Need-number-at-requires Inv-loop μ-loop
+number-at-requires c κs = search needs
+
+loop-holds : tie.Need-loop-holds Inv-loop μ-loop
+loop-holds c = search needs
+
+long-requires : tie.Need-long-requires Inv-loop μ-loop
+long-requires c κs = search needs
+
+mul-same : tie.Need-mul-same Inv-loop μ-loop
+mul-same c = search needs
+
+shared-slice-read-same : tie.Need-shared-slice-read-same Inv-loop μ-loop
+shared-slice-read-same c = search needs
+
+add-i : tie.Need-add-i Inv-loop μ-loop
+add-i c = search needs
+
+loop-less : tie.Need-loop-less Inv-loop μ-loop
+loop-less c = search needs
+
+loop-again : tie.Need-loop-again Inv-loop μ-loop
+loop-again c = search needs
+
+returns : tie.Need-returns Inv-loop μ-loop
+returns c = search needs
+
+pub holds-longs-spec : {M : Type 1} → statement M
+holds-longs-spec =
+    tie.close
+    (tie.spec
+    Inv-loop
+    μ-loop
+    number-at-requires
+    loop-holds
+    long-requires
+    mul-same
+    shared-slice-read-same
+    add-i
+    loop-less
+    loop-again
+    returns)

@@ -1,0 +1,297 @@
+//! A sample of what is right of function tables, as the program function_vectors reads it.
+
+use harness::Random;
+
+use super::groups::{any_table, edited, Table};
+use super::Op::*;
+use super::{right, Case, Layout, LAYOUTS, ROW};
+use crate::record::{Fields, Sample, FILL};
+use crate::words::any_bytes;
+
+const NAMES: [&str; 8] = [
+    "read_functions legacy16",
+    "read_functions modern12",
+    "read_function legacy16",
+    "read_function modern12",
+    "refresh_functions legacy16",
+    "refresh_functions modern12",
+    "function_meets legacy16",
+    "function_meets modern12",
+];
+
+/// The rows for which the program has room, besides one that is not lent.
+const MOST_ROWS: usize = 15;
+
+fn group(case: &Case) -> usize {
+    let op = match case.op {
+        Read => 0,
+        One => 1,
+        Refresh => 2,
+        Meets => 3,
+    };
+    2 * op + case.layout as usize
+}
+
+fn answers(group: usize) -> &'static [u32] {
+    match group / 2 {
+        0 => &[0, 2, 3, 4],
+        1 => &[0, 2, 3],
+        2 => &[0, 2, 3, 4, 10],
+        _ => &[0],
+    }
+}
+
+/// Adds a case with what is right: rows and their refusals by the Rust, all else by document 01.
+fn add(sample: &mut Sample, case: Case) {
+    assert!(case.table.len() <= MOST_ROWS * ROW);
+    assert!(case.table.iter().all(|&word| word == FILL));
+    let Case {
+        op,
+        start,
+        count,
+        low,
+        high,
+        ..
+    } = case;
+    let mut table = case.table.to_vec();
+    let answer = right(&case, &mut table);
+    // A read that is accepted answers no number.
+    let told = answer.map(|n| [if let Refresh | Meets = op { n } else { 0 } as usize, 0]);
+    let fields = Fields::default()
+        .numbers(&[start, count as usize, low, high, case.table.len()])
+        .bytes(case.file)
+        .told(told)
+        .table(&table);
+    sample.add(group(&case), answer.map_or_else(|why| why.0, |_| 0), fields);
+}
+
+pub fn write(mut random: Random) -> (Vec<u8>, Vec<String>) {
+    let mut sample = Sample::new(&NAMES);
+    worked(&mut sample);
+    for layout in LAYOUTS {
+        edges(&mut sample, &mut random, layout);
+        places(&mut sample, &mut random, layout);
+        apart(&mut sample, &mut random, layout);
+    }
+    while sample.more(50_000) {
+        edit(&mut sample, &mut random);
+    }
+    sample.done(answers)
+}
+
+fn table(layout: Layout, file: &[u8], count: u32) -> Table {
+    Table {
+        file: file.to_vec(),
+        layout,
+        start: 0,
+        count,
+    }
+}
+
+/// The lent words that a case of so many rows has, with some over.
+fn lent(rows: usize, over: usize) -> Vec<u32> {
+    vec![FILL; rows * ROW + over]
+}
+
+/// P1, P2 and P5 of document 01, and the function that a fresh read and a refresh name each by itself.
+fn worked(sample: &mut Sample) {
+    let p1 = [0, 1, 0, 4, 0x0A, 0x80, 1, 0, 0, 0, 0, 0x0A, 1, 2, 3, 4];
+    let p2 = [0, 1, 0, 0x44, 0x0A, 0xC0, 0, 0x29, 6, 7, 0x48, 4];
+    let rows = [
+        [0, 0, 256, 2, 10, 3, 0, 5, 4, 1, 2, 3, 0, 0, 0, 0],
+        [1, 0, 256, 2, 10, 3, 0, 6, 4, 1, 4, 5, 7, 8, 1, 0],
+    ];
+    let mut random = Random::new(1);
+    for layout in LAYOUTS {
+        let header: &[u8] = if layout == Layout::Legacy { &p1 } else { &p2 };
+        let read = table(layout, header, 1);
+        let mut words = lent(1, 0);
+        assert_eq!(right(&read.case(Read, &lent(1, 0)), &mut words), Ok(1));
+        assert_eq!(words, rows[layout as usize]);
+        add(sample, read.case(Read, &lent(1, 3)));
+        // Cut at every byte.
+        for len in 0..header.len() {
+            add(
+                sample,
+                table(layout, &header[..len], 1).case(Read, &lent(1, 0)),
+            );
+        }
+        // A large header that just fits, and one cut by a byte.
+        let mut large = table(layout, &vec![0; layout.own() + layout.large()], 1);
+        large.point(&mut random, 0, layout.own() as u64);
+        let read = |large: &Table| right(&large.case(Read, &lent(1, 0)), &mut lent(1, 0));
+        assert_eq!(read(&large), Ok(1));
+        add(sample, large.case(Read, &lent(1, 0)));
+        large.file.pop();
+        assert_eq!(read(&large), Err((3, 0)));
+        add(sample, large.case(Read, &lent(1, 0)));
+        // The large header of function 0 cut, and header 1 cut.
+        let mut both = table(layout, &vec![0; 2 * layout.own() - 1], 2);
+        both.point(&mut random, 0, 1);
+        add(sample, both.case(Read, &lent(2, 0)));
+        for high in [0, both.file.len()] {
+            add(sample, both.refresh((0, high), &lent(2, 0)));
+        }
+    }
+}
+
+/// Starts, counts, numbers and spans around the file's end and far behind it; tables a word short, exact and over.
+fn edges(sample: &mut Sample, random: &mut Random, layout: Layout) {
+    let own = layout.own();
+    let mut made = table(layout, &any_bytes(random, 2 * own + 5), 2);
+    for at in [own - 1, 2 * own - 1, 2 * own + 4] {
+        made.file[at] &= 0xDF;
+    }
+    let len = made.file.len();
+    let table = lent(2, 1);
+    let far = [1 << 30, 1 << 32, 1 << 63, usize::MAX];
+    for start in [0, 5, 6, len - 1, len, len + 1].into_iter().chain(far) {
+        for op in [Read, One, Refresh, Meets] {
+            let high = if op == Read || op == One { 0 } else { len };
+            for count in [0, 1, 2] {
+                let case = Case {
+                    start,
+                    count,
+                    high,
+                    ..made.case(op, &table)
+                };
+                add(sample, case);
+            }
+        }
+    }
+    for words in [0, ROW - 1, ROW, 2 * ROW - 1, 2 * ROW] {
+        for count in [0, 1, 2, 3, u32::MAX] {
+            for op in [Read, Refresh] {
+                let case = Case {
+                    count,
+                    high: if op == Refresh { len } else { 0 },
+                    ..made.case(op, &table[..words])
+                };
+                add(sample, case);
+            }
+        }
+    }
+    for (low, high) in [(1, 0), (0, len + 1), (len, len), (len + 1, len + 1)] {
+        add(sample, made.refresh((low, high), &table));
+        add(sample, made.refresh((low, high), &[]));
+        let meets = made.refresh((low, high), &table);
+        add(
+            sample,
+            Case {
+                op: Meets,
+                count: 0,
+                ..meets
+            },
+        );
+    }
+    for low in far {
+        add(sample, made.refresh((0, low), &table));
+    }
+    for id in [1 << 26, u32::MAX] {
+        for op in [One, Meets] {
+            let case = Case {
+                count: id,
+                high: if op == Meets { len } else { 0 },
+                ..made.case(op, &table[..ROW])
+            };
+            add(sample, case);
+        }
+    }
+}
+
+/// Large headers around the file's end and far behind it, and spans at both of their ends.
+fn places(sample: &mut Sample, random: &mut Random, layout: Layout) {
+    let (own, large) = (layout.own(), layout.large());
+    let len = own + large + 4;
+    let last = (len - large) as u64;
+    let far = [1 << 24, 1 << 25, (1 << 32) - 1];
+    let farther = [1 << 32, (1 << 41) - 1];
+    let farther = farther.into_iter().filter(|_| layout == Layout::Legacy);
+    for place in [
+        0,
+        3,
+        last - 1,
+        last,
+        last + 1,
+        len as u64 - 1,
+        len as u64,
+        len as u64 + 1,
+    ]
+    .into_iter()
+    .chain(far)
+    .chain(farther)
+    {
+        let mut made = table(layout, &any_bytes(random, len), 1);
+        made.point(random, 0, place);
+        for op in [Read, One] {
+            let count = if op == Read { 1 } else { 0 };
+            add(
+                sample,
+                Case {
+                    count,
+                    ..made.case(op, &lent(1, 0))
+                },
+            );
+        }
+        let place = place as usize;
+        let ends = [place, place + large];
+        for at in ends {
+            for span in [(at.saturating_sub(1), at), (at, at + 1)] {
+                let refresh = made.refresh(span, &[FILL; ROW]);
+                if at <= len {
+                    add(sample, refresh);
+                }
+                add(
+                    sample,
+                    Case {
+                        op: Meets,
+                        count: 0,
+                        ..refresh
+                    },
+                );
+            }
+        }
+    }
+}
+
+/// Functions 0, 2 and 4 meet a span by their large headers, 1 and 3 don't.
+fn apart(sample: &mut Sample, random: &mut Random, layout: Layout) {
+    let (own, large) = (layout.own(), layout.large());
+    let mut made = table(layout, &any_bytes(random, 5 * own + large + 2), 5);
+    for id in 0..5 {
+        made.file[(id + 1) * own - 1] &= 0xDF;
+    }
+    for (id, place) in [(0, 5 * own), (2, 5 * own + 2), (4, 5 * own + 1)] {
+        made.point(random, id, place as u64);
+    }
+    for at in [5 * own, 5 * own + 1, 5 * own + 2, 5 * own + large, 2 * own] {
+        add(sample, made.refresh((at, at + 1), &lent(5, 1)));
+    }
+}
+
+/// An edited table of a few functions: refreshed, read, and each function by itself.
+fn edit(sample: &mut Sample, random: &mut Random) {
+    let before = any_table(random, None);
+    if before.count > 5 || before.file.len() > 160 {
+        return;
+    }
+    let (after, span) = edited(random, &before);
+    let over = random.below(ROW);
+    let table = lent(before.count as usize, over);
+    add(sample, after.refresh(span, &table));
+    add(sample, after.case(Read, &table));
+    let id = random.below(before.count as usize + 1) as u32;
+    let one = after.case(One, &table);
+    if table.len() >= ROW {
+        add(sample, Case { count: id, ..one });
+    }
+    let meets = after.refresh(span, &table);
+    add(
+        sample,
+        Case {
+            op: Meets,
+            count: id,
+            ..meets
+        },
+    );
+}
