@@ -1,4 +1,4 @@
-//! The debug section: strings, scopes with their names, callees.
+//! The debug section: strings, and scopes with their names. Callees have a table of their own.
 
 use bisquepond::sys::*;
 use harness::Random;
@@ -9,19 +9,16 @@ use crate::whole::{heading, Whole};
 
 const SIZES: [usize; 3] = [10_000, 100_000, 1_000_000];
 
-/// Sizes for callees that don't rise; the last two if all are asked for.
-const FEW: [usize; 5] = [1_000, 2_000, 4_000, 8_000, 16_000];
-
 /// Names of each scope.
 const NAMES: usize = 4;
 
 /// Strings that scopes and callees name.
-const KNOWN: usize = 100;
+pub const KNOWN: usize = 100;
 
 pub fn rows(bench: &Bench) {
     heading(
-        "The debug section, one call for all of it. The Rust makes a text of every string and of every name, and a map of",
-        "callees, and drops them; ours writes numbers and spans into words lent once. The work is not the same.",
+        "The debug section, one call for all of it. The Rust makes a text of every string and of every name, and drops",
+        "them; ours writes numbers and spans into words lent once. The work is not the same.",
         "entry",
     );
     for entries in SIZES {
@@ -39,42 +36,10 @@ pub fn rows(bench: &Bench) {
         };
         section.row(bench, "scopes of four names", entries);
     }
-    for entries in SIZES {
-        let section = callees(entries, |_, i| 7 * i as u32);
-        section.row(bench, "callees, rising", entries);
-    }
-    heading(
-        "Callees whose addresses don't rise: ours looks at all entries again for each row, and so grows with their",
-        "square; the Rust's map doesn't.",
-        "entry",
-    );
-    let few = if bench.full { &FEW[..] } else { &FEW[..3] };
-    for &entries in few {
-        let section = callees(entries, |_, i| 7 * (entries - i) as u32);
-        section.row(bench, "callees, falling", entries);
-    }
-    for &entries in few {
-        let section = callees(entries, |random, _| random.word() as u32);
-        section.row(bench, "callees, random", entries);
-    }
 }
 
-fn callees(entries: usize, address: impl Fn(&mut Random, usize) -> u32) -> Section {
-    let mut random = Random::new(1);
-    let mut part = Vec::new();
-    sleb(&mut part, entries as i64);
-    for i in 0..entries {
-        sleb(&mut part, address(&mut random, i).into());
-        sleb(&mut part, random.below(KNOWN) as i64);
-    }
-    Section {
-        strings: strings(KNOWN),
-        callees: part,
-        ..Section::default()
-    }
-}
-
-fn sleb(bytes: &mut Vec<u8>, mut value: i64) {
+/// A number in as few bytes as it needs.
+pub fn sleb(bytes: &mut Vec<u8>, mut value: i64) {
     while !(-64..64).contains(&value) {
         bytes.push(value as u8 | 0x80);
         value >>= 7;
@@ -82,7 +47,7 @@ fn sleb(bytes: &mut Vec<u8>, mut value: i64) {
     bytes.push(value as u8 & 0x7F);
 }
 
-fn strings(entries: usize) -> Vec<u8> {
+pub fn strings(entries: usize) -> Vec<u8> {
     let mut random = Random::new(2);
     let mut part = Vec::new();
     for _ in 0..entries {
@@ -108,15 +73,15 @@ fn scopes(entries: usize) -> Vec<u8> {
 }
 
 #[derive(Default)]
-struct Section {
-    scopes: Vec<u8>,
-    callees: Vec<u8>,
-    strings: Vec<u8>,
+pub struct Section {
+    pub scopes: Vec<u8>,
+    pub callees: Vec<u8>,
+    pub strings: Vec<u8>,
 }
 
 impl Section {
     /// At byte 1 of a file.
-    fn file(&self) -> Vec<u8> {
+    pub fn file(&self) -> Vec<u8> {
         let second = self.scopes.len() as u32;
         let third = second + self.callees.len() as u32;
         let size = third + self.strings.len() as u32;
@@ -125,67 +90,85 @@ impl Section {
         [&[0], header, &self.scopes, &self.callees, &self.strings].concat()
     }
 
-    fn row(&self, bench: &Bench, name: &str, entries: usize) {
+    /// Nanoseconds of an entry on both sides.
+    pub fn row(&self, bench: &Bench, name: &str, entries: usize) -> [f64; 2] {
         let file = self.file();
-        // Words for the most rows that so many entries can make, lent again in every pass.
-        let most = entries + KNOWN;
-        let mut tables = [2, 5, NAMES, 2].map(|row| vec![0; row * most]);
-        let ours = || {
-            let [a, b, c, d] = &mut tables;
-            let mut counts = [0; 4];
-            let [strings, scopes, names, callees] = &mut counts;
-            let code = unsafe {
-                hbc_read_debug(
-                    file.as_ptr(),
-                    file.len(),
-                    1,
-                    a.as_mut_ptr(),
-                    a.len(),
-                    b.as_mut_ptr(),
-                    b.len(),
-                    c.as_mut_ptr(),
-                    c.len(),
-                    d.as_mut_ptr(),
-                    d.len(),
-                    strings,
-                    scopes,
-                    names,
-                    callees,
-                )
-            };
-            assert_eq!(code, 0);
-            let [strings, scopes, _, callees] = counts;
-            let mut sum = u64::from(a[2 * strings - 1]);
-            if scopes > 0 {
-                let row = &b[5 * (scopes - 1)..];
-                let name = c[(row[3] + row[4] - 1) as usize] as usize;
-                sum += u64::from(row[0]) + u64::from(a[2 * name + 1]);
-            }
-            if callees > 0 {
-                sum += u64::from(d[2 * (callees - 1)]);
-            }
-            ((strings + scopes + callees) as u64, sum)
-        };
-        let rust = || {
-            let read = DebugInfo::parse(&file, 1).unwrap();
-            let mut sum = read.string_table.last().unwrap().len() as u64;
-            if let Some(scope) = read.scope_descriptors.last() {
-                sum += u64::from(scope.offset) + scope.names.last().unwrap().len() as u64;
-            }
-            if let Some((&address, _)) = read.textified_callees.last_key_value() {
-                sum += u64::from(address);
-            }
-            let rows = [
-                read.string_table.len(),
-                read.scope_descriptors.len(),
-                read.textified_callees.len(),
-            ];
-            (rows.iter().sum::<usize>() as u64, sum)
-        };
+        let mut lent = Lent::new(entries + KNOWN);
         let whole = Whole {
             bytes: file.len(),
             items: entries,
         };
-        whole.row(bench, name, ours, rust);
+        whole.row(bench, name, || lent.read(&file), || published(&file))
     }
+}
+
+/// Words for so many rows of each table, lent again in every pass.
+pub struct Lent([Vec<u32>; 4]);
+
+impl Lent {
+    pub fn new(rows: usize) -> Lent {
+        Lent([2, 5, NAMES, 2].map(|row| vec![0; row * rows]))
+    }
+
+    /// The answer of one call on the section at byte 1, and the four counts.
+    pub fn call(&mut self, file: &[u8]) -> (u64, [usize; 4]) {
+        let [a, b, c, d] = &mut self.0;
+        let mut counts = [0; 4];
+        let [strings, scopes, names, callees] = &mut counts;
+        let code = unsafe {
+            hbc_read_debug(
+                file.as_ptr(),
+                file.len(),
+                1,
+                a.as_mut_ptr(),
+                a.len(),
+                b.as_mut_ptr(),
+                b.len(),
+                c.as_mut_ptr(),
+                c.len(),
+                d.as_mut_ptr(),
+                d.len(),
+                strings,
+                scopes,
+                names,
+                callees,
+            )
+        };
+        (code, counts)
+    }
+
+    /// How many rows a section has, and a sum over their last ones.
+    pub fn read(&mut self, file: &[u8]) -> (u64, u64) {
+        let (code, [strings, scopes, _, callees]) = self.call(file);
+        assert_eq!(code, 0);
+        let [a, b, c, d] = &self.0;
+        let mut sum = u64::from(a[2 * strings - 1]);
+        if scopes > 0 {
+            let row = &b[5 * (scopes - 1)..];
+            let name = c[(row[3] + row[4] - 1) as usize] as usize;
+            sum += u64::from(row[0]) + u64::from(a[2 * name + 1]);
+        }
+        if callees > 0 {
+            sum += u64::from(d[2 * (callees - 1)]);
+        }
+        ((strings + scopes + callees) as u64, sum)
+    }
+}
+
+/// The same by the Rust.
+fn published(file: &[u8]) -> (u64, u64) {
+    let read = DebugInfo::parse(file, 1).unwrap();
+    let mut sum = read.string_table.last().unwrap().len() as u64;
+    if let Some(scope) = read.scope_descriptors.last() {
+        sum += u64::from(scope.offset) + scope.names.last().unwrap().len() as u64;
+    }
+    if let Some((&address, _)) = read.textified_callees.last_key_value() {
+        sum += u64::from(address);
+    }
+    let rows = [
+        read.string_table.len(),
+        read.scope_descriptors.len(),
+        read.textified_callees.len(),
+    ];
+    (rows.iter().sum::<usize>() as u64, sum)
 }

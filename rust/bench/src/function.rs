@@ -88,17 +88,7 @@ impl File {
             header[own - 1] &= !FLAG_OVERFLOWED;
             // By chance, so that no pattern can be learnt, as long as there is room.
             if random.below(one_in) == 0 && place + large <= size {
-                header[own - 1] |= FLAG_OVERFLOWED;
-                let [a, b, c, d] = (place as u32).to_le_bytes();
-                header[..3].copy_from_slice(&[a, b, if layout == 0 { 0 } else { c }]);
-                header[3] &= 0xFE;
-                if layout == 0 {
-                    header[8..11].copy_from_slice(&[c, d, 0]);
-                    header[11] &= 0xFE;
-                } else {
-                    header[5] = header[5] & 0x3F | d << 6;
-                    header[6] = header[6] & 0xC0 | d >> 2;
-                }
+                point(header, layout, place);
                 last = place;
                 place += large;
             }
@@ -170,5 +160,20 @@ impl File {
             (count as u64, sum.iter().sum())
         };
         self.size().row(bench, name, ours, || self.published());
+    }
+}
+
+/// Flags a header and packs a place below 2^28 into it.
+pub fn point(header: &mut [u8], layout: u32, place: usize) {
+    header[header.len() - 1] |= FLAG_OVERFLOWED;
+    let [a, b, c, d] = (place as u32).to_le_bytes();
+    header[..3].copy_from_slice(&[a, b, if layout == 0 { 0 } else { c }]);
+    header[3] &= 0xFE;
+    if layout == 0 {
+        header[8..11].copy_from_slice(&[c, d, 0]);
+        header[11] &= 0xFE;
+    } else {
+        header[5] = header[5] & 0x3F | d << 6;
+        header[6] = header[6] & 0xC0 | d >> 2;
     }
 }

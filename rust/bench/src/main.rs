@@ -5,6 +5,8 @@ use std::process::ExitCode;
 #[cfg(published)]
 mod buffer;
 #[cfg(published)]
+mod callees;
+#[cfg(published)]
 mod debug;
 #[cfg(published)]
 mod function;
@@ -18,6 +20,8 @@ mod strings;
 mod table;
 #[cfg(published)]
 mod whole;
+#[cfg(published)]
+mod worst;
 
 #[cfg(published)]
 fn main() -> ExitCode {
@@ -28,6 +32,8 @@ fn main() -> ExitCode {
         ("function", function::rows),
         ("parsing", parsing::rows),
         ("debug", debug::rows),
+        ("callees", callees::rows),
+        ("worst", worst::rows),
     ])
 }
 

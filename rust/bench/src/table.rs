@@ -1,9 +1,9 @@
-//! What every layer's benchmark shares: the clock, the command line and the table.
+//! What every layer's benchmark shares: the command line and the table.
 
 use std::hint::black_box;
 use std::process::ExitCode;
 
-use harness::count;
+use harness::{count, processor_time};
 
 const USAGE: &str = "usage: bench [--rounds N] [--full] [LAYER..]
 Times every layer, or those named; N rounds each (default 5), of which the best counts. --full adds sizes that take
@@ -28,18 +28,6 @@ pub struct Sides {
     pub called: Side,
     /// The published Rust, inlined into the loop as far as the compiler likes.
     pub inlined: Side,
-}
-
-/// The processor time of this thread so far, in nanoseconds: what others run meanwhile is not counted.
-pub fn processor_time() -> i64 {
-    extern "C" {
-        fn clock_gettime(clock: i32, time: *mut [i64; 2]) -> i32;
-    }
-    const THREAD_CPUTIME: i32 = 3;
-    let mut time = [0; 2];
-    let failed = unsafe { clock_gettime(THREAD_CPUTIME, &mut time) };
-    assert_eq!(failed, 0, "no clock for the thread's processor time");
-    time[0] * 1_000_000_000 + time[1]
 }
 
 pub struct Bench {

@@ -2,9 +2,9 @@
 
 use std::hint::black_box;
 
-use harness::count;
+use harness::{count, processor_time};
 
-use crate::table::{processor_time, Bench};
+use crate::table::Bench;
 
 /// How much there is to do.
 pub struct Whole {
@@ -22,42 +22,45 @@ pub fn heading(first: &str, second: &str, item: &str) {
     println!("{:<58} {:>21}", "", each);
 }
 
+/// Nanoseconds of one pass of `work`, of as many as make a fiftieth of a second, one at least.
+pub fn timed<T>(work: &mut dyn FnMut() -> T) -> f64 {
+    let begin = processor_time();
+    let mut passes = 0;
+    loop {
+        black_box(work());
+        passes += 1;
+        let time = processor_time() - begin;
+        if time > 20_000_000 {
+            return time as f64 / f64::from(passes);
+        }
+    }
+}
+
 impl Whole {
-    /// Times both sides in turn, the best of all rounds each. A side does all of the work, and answers how many items
-    /// there were, and a sum over some of their values.
+    /// Times both sides in turn, the best of all rounds each, and answers the nanoseconds of an item. A side does all of
+    /// the work, and answers how many items there were, and a sum over some of their values.
     pub fn row(
         &self,
         bench: &Bench,
         name: &str,
         mut ours: impl FnMut() -> (u64, u64),
         mut rust: impl FnMut() -> (u64, u64),
-    ) {
+    ) -> [f64; 2] {
         let (given, expected) = (ours(), rust());
         assert_eq!(given, expected, "{name}: the sides read different values");
-        // As many passes as make a fiftieth of a second, one at least.
-        let timed = |side: &mut dyn FnMut() -> (u64, u64)| {
-            let begin = processor_time();
-            let mut passes = 0;
-            loop {
-                black_box(side());
-                passes += 1;
-                let time = processor_time() - begin;
-                if time > 20_000_000 {
-                    return time as f64 / f64::from(passes);
-                }
-            }
-        };
         let mut best = [f64::INFINITY; 2];
         for _ in 0..bench.rounds {
             best[0] = best[0].min(timed(&mut ours));
             best[1] = best[1].min(timed(&mut rust));
         }
         let [ours, rust] = best.map(|time| time / self.items as f64);
+        let ratio = rust / ours;
+        let digits = if ratio < 0.1 { 5 } else { 2 };
         println!(
-            "{name:<34} {:>10} {:>12} {ours:>10.3} {rust:>10.3} {:>9.2}",
+            "{name:<34} {:>10} {:>12} {ours:>10.3} {rust:>10.3} {ratio:>9.digits$}",
             count(self.bytes as u64 >> 10),
             count(self.items as u64),
-            rust / ours
         );
+        [ours, rust]
     }
 }

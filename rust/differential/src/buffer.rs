@@ -1,6 +1,7 @@
 //! The literals: buffer.rs of the published Rust beside the calls of module buffer of libhbc_c.a.
 
 mod groups;
+pub mod hostile;
 mod literal;
 mod series;
 

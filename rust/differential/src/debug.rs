@@ -1,6 +1,7 @@
 //! The debug section: debug.rs of the published Rust, in part, beside the call of libhbc_c.a.
 
 mod groups;
+pub mod hostile;
 
 pub use groups::compare;
 
@@ -9,6 +10,7 @@ use published::debug::DebugInfo;
 use published::io::ByteReader;
 
 use crate::io::LIMIT;
+use crate::meter;
 use crate::run::{number as parsed, Difference};
 use crate::words::{
     self, bytes_word, first_wrong, said, table_word, word_bytes, word_table, Refusal,
@@ -40,39 +42,56 @@ pub struct Answer {
 /// What the counts hold before a call, so that a refused one can be seen to have left them.
 const LENT: usize = 0xA5A5_A5A5_A5A5_A5A5;
 
-fn ours(case: &Case) -> Result<Answer, String> {
-    let (file, len) = (case.file.as_ptr(), case.file.len());
-    let [strings, scopes, names, callees] = case.tables;
+/// A table as it is lent: where it is, and its words.
+type Table = (*mut u32, usize);
+
+/// The call itself: its answer, and what it leaves in the counts.
+fn call(file: &[u8], offset: u32, tables: [Table; 4]) -> (u64, [usize; 4]) {
+    let [strings, scopes, names, callees] = tables;
     let mut counts = [LENT; 4];
     let [a, b, c, d] = &mut counts;
+    let code = meter::call(|| unsafe {
+        hbc_read_debug(
+            file.as_ptr(),
+            file.len(),
+            offset,
+            strings.0,
+            strings.1,
+            scopes.0,
+            scopes.1,
+            names.0,
+            names.1,
+            callees.0,
+            callees.1,
+            a,
+            b,
+            c,
+            d,
+        )
+    });
+    (code, counts)
+}
+
+fn ours(case: &Case) -> Result<Answer, String> {
+    let [strings, scopes, names, callees] = case.tables;
     let (rest, strings) = words::lend(strings, |strings, strings_len| {
         let (rest, scopes) = words::lend(scopes, |scopes, scopes_len| {
             let (rest, names) = words::lend(names, |names, names_len| {
-                words::lend(callees, |callees, callees_len| unsafe {
-                    hbc_read_debug(
-                        file,
-                        len,
-                        case.offset,
-                        strings,
-                        strings_len,
-                        scopes,
-                        scopes_len,
-                        names,
-                        names_len,
-                        callees,
-                        callees_len,
-                        a,
-                        b,
-                        c,
-                        d,
-                    )
+                words::lend(callees, |callees, callees_len| {
+                    let tables = [
+                        (strings, strings_len),
+                        (scopes, scopes_len),
+                        (names, names_len),
+                        (callees, callees_len),
+                    ];
+                    call(case.file, case.offset, tables)
                 })
             })?;
             Ok::<_, String>((rest?, names))
         })?;
         Ok::<_, String>((rest?, scopes))
     })?;
-    let (((code, callees), names), scopes) = rest?;
+    let ((((code, counts), callees), names), scopes) = rest?;
     Ok(Answer {
         code,
         counts,
@@ -233,7 +252,7 @@ fn check(case: &Case, rows: &Result<Rows, Refusal>) -> Result<(), String> {
 }
 
 impl Answer {
-    fn words(&self, other: Option<&Answer>) -> String {
+    pub fn words(&self, other: Option<&Answer>) -> String {
         let mut words = said(self.code);
         if self.counts != [LENT; 4] {
             words += &format!(", counts {:?}", self.counts);

@@ -1,6 +1,7 @@
 //! The function tables: function.rs of the published Rust beside the calls on function headers of libhbc_c.a.
 
 mod groups;
+pub mod hostile;
 
 pub use groups::compare;
 
@@ -11,6 +12,8 @@ use published::format::{empty_header, FunctionHeader, FunctionHeaderLayout, FLAG
 use published::io::ByteReader;
 
 use crate::io::LIMIT;
+use crate::lent::Reserved;
+use crate::meter;
 use crate::run::{number as parsed, Difference};
 use crate::words::{
     self, bytes_word, first_wrong, said, table_word, word_bytes, word_table, Refusal,
@@ -121,8 +124,8 @@ pub struct Answer {
     pub table: Vec<u32>,
 }
 
-/// What libhbc_c.a answers, or what is wrong with it whatever the Rust says.
-fn ours(case: &Case) -> Result<Answer, String> {
+/// The call itself, with a table of so many words.
+fn call(case: &Case, table: *mut u32, words: usize) -> u64 {
     let Case {
         file,
         layout,
@@ -133,7 +136,7 @@ fn ours(case: &Case) -> Result<Answer, String> {
         ..
     } = *case;
     let (bytes, len) = (file.as_ptr(), file.len());
-    let (code, table) = words::lend(case.table, |table, words| unsafe {
+    meter::call(|| unsafe {
         match case.op {
             Read => hbc_read_functions(bytes, len, layout, start, count, table, words),
             Refresh => {
@@ -142,7 +145,12 @@ fn ours(case: &Case) -> Result<Answer, String> {
             One => hbc_read_function(bytes, len, layout, start, count, table, words),
             Meets => hbc_function_meets(bytes, len, layout, start, count, low, high),
         }
-    })?;
+    })
+}
+
+/// What libhbc_c.a answers, or what is wrong with it whatever the Rust says.
+fn ours(case: &Case) -> Result<Answer, String> {
+    let (code, table) = words::lend(case.table, |table, words| call(case, table, words))?;
     Ok(Answer { code, table })
 }
 
@@ -219,7 +227,7 @@ pub fn fresh(file: &[u8], layout: Layout, start: usize, count: u32) -> Result<Ve
 }
 
 /// One function by the Rust: a table of one, at its header.
-fn one(file: &[u8], layout: Layout, start: usize, id: u32) -> Result<Row, Refusal> {
+pub fn one(file: &[u8], layout: Layout, start: usize, id: u32) -> Result<Row, Refusal> {
     if layout.header(file, start, id).is_none() {
         return Err((3, id));
     }
@@ -297,6 +305,20 @@ impl Case<'_> {
         }
     }
 
+    /// Compares a call that must be refused, into a table that can't be written; what is right was worked out beside.
+    pub fn compare_told(&self, refusal: Refusal, table: &Reserved<u32>) -> Result<(), Difference> {
+        let code = call(self, table.as_mut_ptr(), table.len());
+        let answer = |code| Answer {
+            code,
+            table: Vec::new(),
+        };
+        let expected = answer(words::code(Err(refusal)));
+        match code == expected.code {
+            true => Ok(()),
+            false => Err(self.difference(&expected, &answer(code).words(None))),
+        }
+    }
+
     /// Compares a refresh with a fresh read of the same file by the Rust as well. `self.table` begins with the rows of
     /// a file that was read whole, and that differs from this one within the span alone.
     pub fn compare_fresh(&self) -> Result<Answer, Difference> {
@@ -352,7 +374,7 @@ impl Case<'_> {
 
 impl Answer {
     /// The answer, and the first word that differs from another's.
-    fn words(&self, other: Option<&Answer>) -> String {
+    pub fn words(&self, other: Option<&Answer>) -> String {
         let wrong = other.map(|other| first_wrong(&self.table, &other.table, ROW));
         said(self.code) + &wrong.unwrap_or_default()
     }

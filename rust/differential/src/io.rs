@@ -1,6 +1,7 @@
 //! The cursor layer: io.rs of the published Rust beside the io calls of libhbc_c.a.
 
 mod groups;
+pub mod hostile;
 pub mod record;
 
 pub use groups::compare;
@@ -9,6 +10,7 @@ use bisquepond::sys::*;
 use published::error::{Error, Result as Published};
 use published::io::ByteReader;
 
+use crate::meter;
 use crate::run::{number as parsed, Difference};
 
 /// The longest input that document 01 lets through.
@@ -97,7 +99,7 @@ fn ours(case: &Case) -> Result<Answer, String> {
     macro_rules! read {
         ($call:ident, $lent:expr, $bits:expr) => {{
             let mut value = $lent;
-            let code = unsafe { $call(s, len, &mut at, &mut value) };
+            let code = meter::call(|| unsafe { $call(s, len, &mut at, &mut value) });
             (
                 code,
                 value.to_le_bytes() == $lent.to_le_bytes(),
@@ -115,15 +117,19 @@ fn ours(case: &Case) -> Result<Answer, String> {
         F64 => read!(hbc_read_f64, f64::from_bits(LENT), float_bits),
         Uleb128 => read!(hbc_read_uleb128, LENT, |v| v),
         Sleb128 => read!(hbc_read_sleb128, LENT as i64, |v| v as u64),
-        Seek => (unsafe { hbc_seek(s, len, &mut at, case.argument) }, true, 0),
+        Seek => (
+            meter::call(|| unsafe { hbc_seek(s, len, &mut at, case.argument) }),
+            true,
+            0,
+        ),
         Align => (
-            unsafe { hbc_align(s, len, &mut at, case.argument) },
+            meter::call(|| unsafe { hbc_align(s, len, &mut at, case.argument) }),
             true,
             0,
         ),
         Bytes | Cstring | LengthPrefixedString => {
             spanned = true;
-            let code = match case.op {
+            let code = meter::call(|| match case.op {
                 Bytes => unsafe {
                     hbc_read_bytes(s, len, &mut at, case.argument, &mut start, &mut span_len)
                 },
@@ -131,7 +137,7 @@ fn ours(case: &Case) -> Result<Answer, String> {
                 _ => unsafe {
                     hbc_read_length_prefixed_string(s, len, &mut at, &mut start, &mut span_len)
                 },
-            };
+            });
             (code, [start, span_len] == [LENT as usize; 2], 0)
         }
     };
@@ -298,7 +304,7 @@ impl Case<'_> {
 }
 
 impl Answer {
-    fn words(&self, op: Op) -> String {
+    pub fn words(&self, op: Op) -> String {
         let at = self.at;
         let [first, second] = self.value;
         match (self.number, op) {

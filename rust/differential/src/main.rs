@@ -12,9 +12,13 @@ mod differences;
 #[cfg(published)]
 mod function;
 #[cfg(published)]
+mod hostile;
+#[cfg(published)]
 mod io;
 #[cfg(published)]
 mod lent;
+#[cfg(published)]
+mod meter;
 #[cfg(published)]
 mod parsing;
 #[cfg(published)]
@@ -35,36 +39,42 @@ fn main() -> ExitCode {
         Layer {
             name: "io",
             compare: io::compare,
+            hostile: io::hostile::soak,
             record: Some(io::record::write),
             replay: io::replay,
         },
         Layer {
             name: "table",
             compare: table::compare,
+            hostile: table::hostile::soak,
             record: None,
             replay: table::replay,
         },
         Layer {
             name: "buffer",
             compare: buffer::compare,
+            hostile: buffer::hostile::soak,
             record: None,
             replay: buffer::replay,
         },
         Layer {
             name: "function",
             compare: function::compare,
+            hostile: function::hostile::soak,
             record: None,
             replay: function::replay,
         },
         Layer {
             name: "parsing",
             compare: parsing::compare,
+            hostile: parsing::hostile::soak,
             record: None,
             replay: parsing::replay,
         },
         Layer {
             name: "debug",
             compare: debug::compare,
+            hostile: debug::hostile::soak,
             record: None,
             replay: debug::replay,
         },

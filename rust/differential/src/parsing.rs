@@ -2,6 +2,7 @@
 
 mod differences;
 mod handlers;
+pub mod hostile;
 mod sections;
 
 use crate::run::{Difference, Run};

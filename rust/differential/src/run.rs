@@ -6,17 +6,22 @@ use std::time::{Duration, Instant};
 
 use harness::{count, Random};
 
+use crate::hostile::Soak;
+
 const USAGE: &str = "usage: differential [--seconds N] [--seed S] [--full] [LAYER..]
+       differential --hostile [--seconds N] [--seed S] [--full] [LAYER..]
        differential [--seed S] --record FILE [LAYER]
        differential --replay LAYER WORD..
 Compares every layer, or those named. Fixed inputs are always compared whole; random ones until N seconds have
-passed in all (default 20). --full adds inputs that need 8 GB of memory and many minutes. --record writes a sample
+passed in all (default 20). --full adds inputs that need 8 GB of memory and many minutes. --hostile compares inputs
+that are made to take long instead, up to 2^30 bytes, and judges the time and memory of each call. --record writes a sample
 of the Rust's answers, as the LAYER_vectors program reads it; the layer is io if none is named. --replay compares one
 input, in the words that a difference prints.";
 
 pub struct Layer {
     pub name: &'static str,
     pub compare: fn(&mut Run) -> Result<(), Difference>,
+    pub hostile: fn(&mut Soak) -> Result<(), Difference>,
     /// The sample as bytes, and a line for each thing it covers; none where no program reads one.
     pub record: Option<fn(Random) -> (Vec<u8>, Vec<String>)>,
     /// Both answers in words, or a difference.
@@ -86,6 +91,7 @@ struct Asked {
     seconds: f64,
     seed: u64,
     full: bool,
+    hostile: bool,
     record: Option<String>,
     replay: bool,
     words: Vec<String>,
@@ -96,6 +102,7 @@ fn asked() -> Result<Asked, String> {
         seconds: 20.0,
         seed: 1,
         full: false,
+        hostile: false,
         record: None,
         replay: false,
         words: Vec::new(),
@@ -107,6 +114,7 @@ fn asked() -> Result<Asked, String> {
             "--seconds" => asked.seconds = number(&next()?)?,
             "--seed" => asked.seed = number(&next()?)?,
             "--full" => asked.full = true,
+            "--hostile" => asked.hostile = true,
             "--record" => asked.record = Some(next()?),
             "--replay" => asked.replay = true,
             _ if word.starts_with("--") => return Err(format!("no option {word}")),
@@ -151,20 +159,41 @@ pub fn main(layers: &[Layer]) -> ExitCode {
         [] => layers.iter().collect(),
         words => words.iter().filter_map(find).collect(),
     };
-    compare(&chosen, &asked)
+    match asked.hostile {
+        true => soak(&chosen, &asked),
+        false => compare(&chosen, &asked),
+    }
+}
+
+/// When the random inputs of layer `i` of so many end: each has its share of the seconds.
+fn until(begin: Instant, asked: &Asked, i: usize, layers: usize) -> Instant {
+    let share = asked.seconds.max(0.0) * (i + 1) as f64 / layers as f64;
+    begin + Duration::from_secs_f64(share)
+}
+
+fn soak(layers: &[&Layer], asked: &Asked) -> ExitCode {
+    let begin = Instant::now();
+    let mut soak = Soak::new(asked.full, asked.seed);
+    for (i, layer) in layers.iter().enumerate() {
+        soak.layer(layer.name, until(begin, asked, i, layers.len()));
+        if let Err(difference) = (layer.hostile)(&mut soak) {
+            return report(difference);
+        }
+    }
+    soak.totals();
+    ExitCode::SUCCESS
 }
 
 fn compare(layers: &[&Layer], asked: &Asked) -> ExitCode {
-    let (seconds, seed) = (asked.seconds, asked.seed);
+    let seed = asked.seed;
     let begin = Instant::now();
     let mut total = 0;
     for (i, layer) in layers.iter().enumerate() {
-        let share = seconds.max(0.0) * (i + 1) as f64 / layers.len() as f64;
         let mut run = Run {
             full: asked.full,
             layer: layer.name,
             seed,
-            until: begin + Duration::from_secs_f64(share),
+            until: until(begin, asked, i, layers.len()),
             cases: 0,
             total: 0,
         };

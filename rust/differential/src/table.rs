@@ -1,6 +1,7 @@
 //! The string tables: table.rs of the published Rust beside the calls of module table of libhbc_c.a.
 
 mod groups;
+pub mod hostile;
 mod reads;
 mod strings;
 

@@ -1,4 +1,4 @@
-//! What the comparison and the benchmark share: random numbers by seed, and numbers that read well.
+//! What the comparison and the benchmark share: random numbers by seed, the clock, and numbers that read well.
 
 /// SplitMix64: the same numbers for the same seed, on every machine.
 pub struct Random(u64);
@@ -28,6 +28,18 @@ impl Random {
     pub fn pick<T: Copy>(&mut self, from: &[T]) -> T {
         from[self.below(from.len())]
     }
+}
+
+/// The processor time of this thread so far, in nanoseconds: what others run meanwhile is not counted.
+pub fn processor_time() -> i64 {
+    extern "C" {
+        fn clock_gettime(clock: i32, time: *mut [i64; 2]) -> i32;
+    }
+    const THREAD_CPUTIME: i32 = 3;
+    let mut time = [0; 2];
+    let failed = unsafe { clock_gettime(THREAD_CPUTIME, &mut time) };
+    assert_eq!(failed, 0, "no clock for the thread's processor time");
+    time[0] * 1_000_000_000 + time[1]
 }
 
 /// A count with its thousands apart: 16,843,009.

@@ -6,6 +6,7 @@ use published::io::ByteReader;
 
 use super::{file, refusal, told};
 use crate::io::LIMIT;
+use crate::meter;
 use crate::run::{number as parsed, Difference};
 use crate::shown::{argued, argument, difference, said, PRINTED};
 
@@ -59,11 +60,11 @@ impl Case<'_> {
     fn ours(&self) -> Answer {
         let (s, s_len) = (self.input.as_ptr(), self.input.len());
         let (mut at, mut kind, mut float, mut word) = (self.at, KIND, FLOAT, WORD);
-        let code = unsafe {
+        let code = meter::call(|| unsafe {
             hbc_read_literal(
                 s, s_len, &mut at, self.tag, &mut kind, &mut float, &mut word,
             )
-        };
+        });
         Answer {
             number: number(code),
             place: place(code),

@@ -8,6 +8,7 @@ use published::file::structure::LiteralValue;
 use super::{file, refusal, told};
 use crate::io::LIMIT;
 use crate::lent::{Lent, Reserved};
+use crate::meter;
 use crate::run::{number as parsed, Difference};
 use crate::search::last;
 use crate::shown::{argued, argument, difference, said, LENT, PRINTED};
@@ -53,7 +54,7 @@ impl Case<'_> {
         let (keys, values, yes) = match call {
             Series => {
                 let (s, s_len) = (self.buffer.as_ptr(), self.buffer.len());
-                return unsafe {
+                return meter::call(|| unsafe {
                     hbc_read_series(
                         s,
                         s_len,
@@ -64,7 +65,7 @@ impl Case<'_> {
                         payloads,
                         payloads_len,
                     )
-                };
+                });
             }
             Keys => (
                 self.buffer,
@@ -73,7 +74,7 @@ impl Case<'_> {
             ),
             Values => (other, self.buffer, 0),
         };
-        unsafe {
+        meter::call(|| unsafe {
             hbc_read_object(
                 keys.as_ptr(),
                 keys.len(),
@@ -87,7 +88,7 @@ impl Case<'_> {
                 payloads,
                 payloads_len,
             )
-        }
+        })
     }
 
     fn rust(&self, end: usize, count: u32) -> Published<Vec<LiteralValue>> {
@@ -171,13 +172,37 @@ impl Case<'_> {
         kinds: &Reserved<u32>,
         payloads: &Reserved<u64>,
     ) -> Result<(), Difference> {
+        self.refused_as(|guess| self.expected(guess), kinds, payloads)
+    }
+
+    /// The same with an answer that was worked out beside: the Rust would need too much memory.
+    pub fn compare_told(
+        &self,
+        (number, place): (u32, u32),
+        kinds: &Reserved<u32>,
+        payloads: &Reserved<u64>,
+    ) -> Result<(), Difference> {
+        let told = |_| Expected {
+            number,
+            place,
+            ..Expected::default()
+        };
+        self.refused_as(told, kinds, payloads)
+    }
+
+    fn refused_as(
+        &self,
+        expected: impl Fn(u32) -> Expected,
+        kinds: &Reserved<u32>,
+        payloads: &Reserved<u64>,
+    ) -> Result<(), Difference> {
         assert!(self.kinds <= kinds.len() && self.payloads <= payloads.len());
-        let mut expected = None;
+        let mut found = None;
         for call in [Series, Keys, Values] {
             let code = self.call(call, &OTHER, kinds.as_mut_ptr(), payloads.as_mut_ptr());
-            let expected = expected.get_or_insert_with(|| self.expected(place(code)));
-            assert!(expected.number != 0);
-            self.same(call, code, expected)?;
+            let found = found.get_or_insert_with(|| expected(place(code)));
+            assert!(found.number != 0);
+            self.same(call, code, found)?;
         }
         Ok(())
     }

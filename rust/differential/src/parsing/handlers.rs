@@ -6,6 +6,7 @@ use published::file::parser::parsing;
 use published::format::{FunctionHeader, LegacyFunctionHeader};
 
 use crate::io::LIMIT;
+use crate::meter;
 use crate::run::{number as parsed, Difference, Run};
 use crate::words::{
     self, any_bytes, any_words, bytes_word, first_wrong, said, table_word, word_bytes, word_table,
@@ -23,7 +24,7 @@ const FLAGS: usize = 8;
 pub const ROW: usize = 4;
 
 /// The flag of a function that has handlers.
-const HAS: u32 = 8;
+pub const HAS: u32 = 8;
 
 /// One call. `functions` and `rows` are the words lent, as they are before it.
 #[derive(Clone, Copy)]
@@ -36,7 +37,7 @@ pub struct Case<'a> {
 
 /// The answer, how many rows it says, and every word lent afterwards.
 #[derive(PartialEq, Eq)]
-struct Answer {
+pub struct Answer {
     code: u64,
     total: usize,
     rows: Vec<u32>,
@@ -49,10 +50,12 @@ fn ours(case: &Case) -> Result<Answer, String> {
     let (file, len) = (case.file.as_ptr(), case.file.len());
     let (functions, words) = (case.functions.as_ptr(), case.functions.len());
     let mut total = LENT;
-    let (code, rows) = words::lend(case.rows, |rows, rows_len| unsafe {
-        hbc_read_handlers(
-            file, len, functions, words, case.count, rows, rows_len, &mut total,
-        )
+    let (code, rows) = words::lend(case.rows, |rows, rows_len| {
+        meter::call(|| unsafe {
+            hbc_read_handlers(
+                file, len, functions, words, case.count, rows, rows_len, &mut total,
+            )
+        })
     })?;
     Ok(Answer { code, total, rows })
 }
@@ -118,7 +121,7 @@ fn expected(case: &Case) -> Answer {
 }
 
 impl Answer {
-    fn words(&self, other: Option<&Answer>) -> String {
+    pub fn words(&self, other: Option<&Answer>) -> String {
         let wrong = other.map(|other| first_wrong(&self.rows, &other.rows, ROW));
         let total = match self.total {
             LENT => "no total".to_string(),
@@ -129,7 +132,7 @@ impl Answer {
 }
 
 impl Case<'_> {
-    fn compare(&self) -> Result<Answer, Difference> {
+    pub fn compare(&self) -> Result<Answer, Difference> {
         let expected = expected(self);
         match ours(self) {
             Ok(given) if given == expected => Ok(given),
@@ -216,7 +219,7 @@ fn gives(run: &mut Run, file: &[u8], functions: &[u32], rows: usize) -> Compared
 }
 
 /// A function of which only two words are set.
-fn function(info_offset: u32, flags: u32) -> [u32; FUNCTION] {
+pub fn function(info_offset: u32, flags: u32) -> [u32; FUNCTION] {
     let mut row = [0; FUNCTION];
     (row[INFO_OFFSET], row[FLAGS]) = (info_offset, flags);
     row
@@ -361,9 +364,15 @@ fn longest(run: &mut Run) -> Compared {
     Ok(())
 }
 
+fn total(run: &mut Run) -> Compared {
+    past_counting()?;
+    run.equal();
+    Ok(())
+}
+
 /// So many functions share a thousand handlers that their rows cannot be counted in 32 bits. The Rust would need 51
 /// gigabytes for them; what is right follows from its rows for one.
-fn total(run: &mut Run) -> Compared {
+pub fn past_counting() -> Result<String, Difference> {
     let mut file = vec![0; 4 + 4 + 12_000];
     file[4..8].copy_from_slice(&1000u32.to_le_bytes());
     let row = function(4, HAS);
@@ -382,11 +391,10 @@ fn total(run: &mut Run) -> Compared {
         rows: lent.clone(),
     };
     match ours(&many) {
-        Ok(given) if given == expected => run.equal(),
-        Ok(given) => return Err(many.difference(&expected, &given.words(Some(&expected)))),
-        Err(wrong) => return Err(many.difference(&expected, &wrong)),
+        Ok(given) if given == expected => Ok(given.words(None)),
+        Ok(given) => Err(many.difference(&expected, &given.words(Some(&expected)))),
+        Err(wrong) => Err(many.difference(&expected, &wrong)),
     }
-    Ok(())
 }
 
 /// A file, and functions whose words are mostly of use in it.

@@ -8,6 +8,7 @@ use published::format::{empty_header, FunctionHeaderLayout};
 use published::io::ByteReader;
 
 use crate::io::LIMIT;
+use crate::meter;
 use crate::run::{number as parsed, Difference, Run};
 use crate::words::{
     self, any_bytes, any_words, bytes_word, first_wrong, said, table_word, word_bytes, word_table,
@@ -44,7 +45,7 @@ pub struct Case<'a> {
 }
 
 #[derive(PartialEq, Eq)]
-struct Answer {
+pub struct Answer {
     code: u64,
     rows: Vec<u32>,
 }
@@ -59,10 +60,12 @@ fn ours(case: &Case) -> Result<Answer, String> {
         cjs,
         ..
     } = *case;
-    let (code, rows) = words::lend(case.rows, |rows, words| unsafe {
-        hbc_trailing_sections(
-            file, len, start, regexps, storage, cjs, given, sources, rows, words,
-        )
+    let (code, rows) = words::lend(case.rows, |rows, words| {
+        meter::call(|| unsafe {
+            hbc_trailing_sections(
+                file, len, start, regexps, storage, cjs, given, sources, rows, words,
+            )
+        })
     })?;
     Ok(Answer { code, rows })
 }
@@ -117,14 +120,14 @@ fn right(case: &Case) -> Result<Found, Refusal> {
 }
 
 impl Answer {
-    fn words(&self, other: Option<&Answer>) -> String {
+    pub fn words(&self, other: Option<&Answer>) -> String {
         let wrong = other.map(|other| first_wrong(&self.rows, &other.rows, ROW));
         said(self.code) + &wrong.unwrap_or_default()
     }
 }
 
 impl Case<'_> {
-    fn compare(&self) -> Result<Answer, Difference> {
+    pub fn compare(&self) -> Result<Answer, Difference> {
         let found = right(self);
         let mut rows = self.rows.to_vec();
         if let Ok((found, _)) = &found {

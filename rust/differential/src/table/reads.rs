@@ -8,6 +8,7 @@ use published::io::ByteReader;
 
 use crate::io::LIMIT;
 use crate::lent::{Lent, Reserved};
+use crate::meter;
 use crate::run::{number as parsed, Difference};
 use crate::shown::{argued, argument, difference, said, LENT, PRINTED};
 
@@ -103,7 +104,7 @@ impl Case<'_> {
         };
         let (s, s_len) = (self.input.as_ptr(), self.input.len());
         let mut at = self.at;
-        let code = unsafe { call(s, s_len, &mut at, self.count, table, self.lent) };
+        let code = meter::call(|| unsafe { call(s, s_len, &mut at, self.count, table, self.lent) });
         Answer {
             number: number(code),
             place: place(code),

@@ -9,6 +9,7 @@ use published::io::ByteReader;
 use super::{bytes_of, words_of};
 use crate::io::LIMIT;
 use crate::lent::Lent;
+use crate::meter;
 use crate::run::{number as parsed, Difference};
 use crate::search::last;
 use crate::shown::{argued, argument, difference, said, PRINTED};
@@ -60,7 +61,7 @@ impl Case<'_> {
     }
 
     fn call(&self, rows: &mut Lent<u32>) -> u64 {
-        unsafe {
+        meter::call(|| unsafe {
             hbc_decode_strings(
                 self.count,
                 self.kinds.as_ptr(),
@@ -74,7 +75,7 @@ impl Case<'_> {
                 rows.as_mut_ptr(),
                 self.lent,
             )
-        }
+        })
     }
 
     /// Start, byte length and validity of each string, in the words of document 01: the Rust's texts don't tell the
@@ -154,6 +155,26 @@ impl Case<'_> {
         Ok(())
     }
 
+    /// Compares with rows that were worked out beside: the Rust would need too much memory for its texts.
+    pub fn compare_told(&self, row: impl Fn(usize) -> [u32; ROW]) -> Result<(), Difference> {
+        let mut rows = Lent::new(self.lent);
+        let code = self.call(&mut rows);
+        let strings = self.strings();
+        let given = rows.words().chunks_exact(ROW).take(strings).enumerate();
+        let wrong = given.into_iter().find(|(i, given)| **given != row(*i));
+        match (code == strings as u64, wrong) {
+            (true, None) => Ok(()),
+            (false, _) => {
+                let given = said_rows(bisquepond::sys::number(code), bisquepond::sys::place(code));
+                Err(self.difference(0, strings as u32, given))
+            }
+            (_, Some((i, given))) => {
+                let wrong = format!("row {i} is {given:?}, not {:?}", row(i));
+                Err(self.difference(0, strings as u32, wrong))
+            }
+        }
+    }
+
     /// The string whose pair is missing: so many the Rust still decodes, and not one more.
     fn first_missing(&self, runs: &[StringKindEntry], guess: u32) -> u32 {
         let strings = self.strings() as u32;
@@ -196,7 +217,9 @@ fn string_bytes(storage: &[u8], rows: &[u32], index: usize) -> (usize, usize) {
     let (mut start, mut len) = (usize::MAX, usize::MAX);
     let (s, s_len) = (storage.as_ptr(), storage.len());
     let (rows, rows_len) = (rows.as_ptr(), rows.len());
-    unsafe { hbc_string_bytes(s, s_len, rows, rows_len, index, &mut start, &mut len) };
+    meter::call(|| unsafe {
+        hbc_string_bytes(s, s_len, rows, rows_len, index, &mut start, &mut len)
+    });
     (start, len)
 }
 

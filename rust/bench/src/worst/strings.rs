@@ -1,0 +1,97 @@
+//! The string tables.
+
+use bisquepond::sys::*;
+use harness::Random;
+
+use super::io::any_bytes;
+use super::{calls, refused, row, scattered};
+use crate::table::Bench;
+
+const ROW: usize = 4;
+
+pub fn rows(bench: &Bench) {
+    for (name, width) in [("read_u32_table", 1), ("read_pair_table", 2)] {
+        row(bench, name, "from an odd byte on", |n| {
+            let file = any_bytes(4 * width * n + 1);
+            let mut table = vec![0; width * n];
+            let read = move || {
+                let call = match width {
+                    1 => hbc_read_u32_table,
+                    _ => hbc_read_pair_table,
+                };
+                let (s, lent) = (file.as_ptr(), table.as_mut_ptr());
+                unsafe { call(s, file.len(), &mut 1, n as u32, lent, table.len()) }
+            };
+            (0, read)
+        });
+    }
+    row(
+        bench,
+        "decode_strings",
+        "all by pairs, all runs empty",
+        |n| decode(vec![0; n], vec![0xFF00_0001; n], n),
+    );
+    row(
+        bench,
+        "decode_strings",
+        "any entry, runs of 0 or 1, any pair",
+        |n| {
+            let mut random = Random::new(1);
+            let runs = (0..n).map(|_| random.word() as u32 & 0x8000_0001);
+            let runs = runs.collect();
+            // One in two by a pair, one in two as UTF-16; many outside the storage.
+            let entry = |word: u64| word as u32 | if word >> 32 & 1 == 0 { 0 } else { 0xFF00_0000 };
+            let small = (0..n).map(|_| entry(random.word())).collect();
+            decode(runs, small, n)
+        },
+    );
+    row(
+        bench,
+        "decode_strings",
+        "all by pairs, the last one missing",
+        |n| {
+            let (_, decode) = decode(vec![0; n], vec![0xFF00_0000; n], n - 1);
+            (refused(8, n - 1), decode)
+        },
+    );
+    row(bench, "string_bytes", "any row", |n| {
+        let storage = vec![0; n];
+        let words: Vec<u32> = (0..n)
+            .flat_map(|i| [i as u32, 1, i as u32 & 1, 0])
+            .collect();
+        let read = move || {
+            calls(n, |i| {
+                let (mut start, mut len) = (0, 0);
+                let (s, rows, index) = (storage.as_ptr(), words.as_ptr(), scattered(i, n));
+                unsafe { hbc_string_bytes(s, n, rows, ROW * n, index, &mut start, &mut len) };
+                (start > n || len > 1) as u64
+            })
+        };
+        (0, read)
+    });
+}
+
+/// Strings of a storage of 1,000 bytes, by these runs and entries and so many pairs.
+fn decode(runs: Vec<u32>, small: Vec<u32>, pairs: usize) -> (u64, impl FnMut() -> u64) {
+    let mut random = Random::new(2);
+    let overflow: Vec<u32> = (0..2 * pairs).map(|_| random.below(1_000) as u32).collect();
+    let storage = [0; 1_000];
+    let mut rows = vec![0; ROW * small.len()];
+    let answer = small.len() as u64;
+    let decode = move || unsafe {
+        hbc_decode_strings(
+            u32::MAX,
+            runs.as_ptr(),
+            runs.len(),
+            small.as_ptr(),
+            small.len(),
+            overflow.as_ptr(),
+            overflow.len(),
+            storage.as_ptr(),
+            storage.len(),
+            rows.as_mut_ptr(),
+            rows.len(),
+        )
+    };
+    (answer, decode)
+}

@@ -1,0 +1,306 @@
+//! Hostile inputs for the debug section.
+
+mod callees;
+
+use harness::Random;
+
+use super::{call, Case, Table, LENT, NONE, ROWS, TABLES};
+use crate::hostile::{file_of, fill, mixed, ten, Compared, Size, Soak};
+use crate::io::LIMIT;
+use crate::lent::Reserved;
+use crate::run::Difference;
+use crate::words::{any_words, code, said};
+
+/// Where the section begins.
+const OFFSET: usize = 1;
+
+/// A scope whose only name is refused, ten bytes on.
+const CUT: [u8; 13] = [0x7F, 0, 1, 255, 255, 255, 255, 255, 255, 255, 255, 255, 255];
+
+/// A part that is one piece again and again: its table, and the words of row `i` where the part begins at a byte.
+struct Part {
+    name: &'static str,
+    piece: &'static [u8],
+    table: usize,
+    row: fn(usize, u32) -> [u32; 5],
+}
+
+const STRINGS: usize = 0;
+const SCOPES: usize = 1;
+
+const PARTS: [Part; 5] = [
+    Part {
+        name: "strings of no bytes",
+        piece: &[0],
+        table: STRINGS,
+        row: |begin, i| [begin as u32 + i + 1, 0, 0, 0, 0],
+    },
+    Part {
+        name: "strings of no bytes, ten-byte prefixes",
+        piece: &[0x80, 0x80, 0x80, 0x80, 0x80, 0x80, 0x80, 0x80, 0x80, 0],
+        table: STRINGS,
+        row: |begin, i| [begin as u32 + 10 * i + 10, 0, 0, 0, 0],
+    },
+    Part {
+        name: "scopes of no names",
+        piece: &[0x7F, 0, 0],
+        table: SCOPES,
+        row: |_, i| [3 * i, NONE, 0, 0, 0],
+    },
+    Part {
+        name: "scopes of no names, ten-byte numbers",
+        piece: &[0x80, 0x80, 0x80, 0x80, 0x80, 0x80, 0x80, 0x80, 0x80, 0].as_slice(),
+        table: SCOPES,
+        row: |_, i| [30 * i, 0, 0, 0, 0],
+    },
+    Part {
+        name: "scopes whose names are cut",
+        piece: &CUT,
+        table: SCOPES,
+        row: |_, i| [13 * i, NONE, 0, 0, 0],
+    },
+];
+
+pub fn soak(soak: &mut Soak) -> Compared {
+    headers(soak)?;
+    for part in &PARTS {
+        part.compared(soak)?;
+        part.one_short(soak)?;
+        part.accepted(soak)?;
+    }
+    claims(soak)?;
+    let far = [0, 1, 28, LIMIT as u32, u32::MAX];
+    soak.at_random(1 << 16, |random| any(random, &far))?;
+    callees::soak(soak)
+}
+
+impl Part {
+    /// Bytes of an entry, of which a scope of ten-byte numbers has three pieces.
+    fn entry(&self) -> usize {
+        match (self.table, self.piece.len()) {
+            (SCOPES, 10) => 30,
+            (_, len) => len,
+        }
+    }
+
+    /// Makes a section of so many bytes at least: where its part begins, and how many entries it has.
+    fn make(&self, file: &mut Vec<u8>, len: usize) -> (usize, usize) {
+        fill(file, len, self.piece);
+        let begin = 60usize.next_multiple_of(self.entry());
+        let count = (len - begin) / self.entry();
+        let size = (count * self.entry()) as u32;
+        let offsets = match self.table {
+            STRINGS => [0, 0, 0],
+            _ => [0, size, size],
+        };
+        header(file, begin, offsets, size);
+        (begin, count)
+    }
+
+    /// With the Rust, in 2^24 bytes.
+    fn compared(&self, soak: &mut Soak) -> Compared {
+        let len = 1 << 24;
+        let size = Size {
+            work: 8 * len,
+            memory: 200 * len,
+        };
+        soak.case(&format!("{}, 2^24 bytes", self.name), size, |file| {
+            let (_, count) = self.make(file, len);
+            let words = |table: usize| {
+                if table == self.table {
+                    count * ROWS[table]
+                } else {
+                    0
+                }
+            };
+            let tables = [0, 1, 2, 3].map(|table| vec![7; words(table)]);
+            compare(file, &tables)
+        })
+    }
+
+    /// A row short, in 2^30 bytes: refused after all was counted, and nothing is written.
+    fn one_short(&self, soak: &mut Soak) -> Compared {
+        soak.case(
+            &format!("{}, 2^30 bytes, a row short", self.name),
+            file_of(LIMIT),
+            |file| {
+                let (_, count) = self.make(file, LIMIT);
+                let table = Reserved::new(count * ROWS[self.table] - 1).expect("addresses");
+                let answer = call(
+                    file,
+                    OFFSET as u32,
+                    self.lent(table.as_mut_ptr(), table.len()),
+                );
+                same(answer, (code(Err((4, 0))), [LENT; 4]))
+            },
+        )
+    }
+
+    /// All rows of 2^30 bytes, worked out beside.
+    fn accepted(&self, soak: &mut Soak) -> Compared {
+        let words = LIMIT / self.entry() * ROWS[self.table];
+        let size = Size {
+            work: LIMIT + 4 * words,
+            memory: LIMIT + 4 * words,
+        };
+        soak.case(&format!("{}, 2^30 bytes", self.name), size, |file| {
+            let (begin, count) = self.make(file, LIMIT);
+            let width = ROWS[self.table];
+            let mut table = vec![7; count * width];
+            let answer = call(
+                file,
+                OFFSET as u32,
+                self.lent(table.as_mut_ptr(), table.len()),
+            );
+            let mut counts = [0; 4];
+            counts[self.table] = count;
+            let rows = table.chunks_exact(width).zip(0..);
+            let wrong = rows
+                .into_iter()
+                .find(|(row, i)| **row != (self.row)(begin, *i)[..width]);
+            match wrong {
+                None => same(answer, (0, counts)),
+                Some((row, i)) => Err(Difference(vec![format!("row {i} is {row:?}")])),
+            }
+        })
+    }
+
+    /// The one table that has words, among others that have none.
+    fn lent(&self, words: *mut u32, len: usize) -> [Table; 4] {
+        let none = std::ptr::NonNull::dangling().as_ptr();
+        let mut tables = [(none, 0); 4];
+        tables[self.table] = (words, len);
+        tables
+    }
+}
+
+/// The section's header, for a part that begins at a byte of the file.
+fn header(file: &mut [u8], begin: usize, [scopes, callees, strings]: [u32; 3], size: u32) {
+    let storage = (begin - OFFSET - 28) as u32;
+    let words = [0, storage, 0, scopes, callees, strings, size].map(u32::to_le_bytes);
+    file[OFFSET..OFFSET + 28].copy_from_slice(words.as_flattened());
+}
+
+/// The answer and the counts that were worked out beside.
+fn same(given: (u64, [usize; 4]), expected: (u64, [usize; 4])) -> Result<String, Difference> {
+    let words = |(code, counts): (u64, [usize; 4])| match counts {
+        [LENT, ..] => said(code),
+        _ => format!("{}, counts {counts:?}", said(code)),
+    };
+    match given == expected {
+        true => Ok(words(given)),
+        false => Err(Difference(vec![
+            format!("expected  {}", words(expected)),
+            format!("libhbc_c  {}", words(given)),
+        ])),
+    }
+}
+
+fn compare(file: &[u8], tables: &[Vec<u32>; 4]) -> Result<String, Difference> {
+    let [a, b, c, d] = tables;
+    let case = Case {
+        file,
+        offset: OFFSET as u32,
+        tables: [a, b, c, d],
+    };
+    Ok(case.compare()?.words(None))
+}
+
+/// Each word of the header, and all of them, 2^32 - 1.
+fn headers(soak: &mut Soak) -> Compared {
+    soak.case(
+        "header words of 2^32 - 1, 2^30 bytes",
+        file_of(LIMIT),
+        |file| {
+            fill(file, LIMIT, &[0]);
+            let tables = TABLES.map(|_| Vec::new());
+            for far in 1u32..128 {
+                for word in 0..7 {
+                    let number = if far >> word & 1 == 1 {
+                        [0xFF; 4]
+                    } else {
+                        [0; 4]
+                    };
+                    file[OFFSET + 4 * word..][..4].copy_from_slice(&number);
+                }
+                compare(file, &tables)?;
+            }
+            Ok("each as expected".to_string())
+        },
+    )
+}
+
+/// Numbers that claim more than there is: names, callees, bytes of a string.
+fn claims(soak: &mut Soak) -> Compared {
+    for (name, head) in [
+        (
+            "a scope of 2^32 - 1 names",
+            [&[0, 0], ten(u32::MAX.into()).as_slice()].concat(),
+        ),
+        (
+            "a scope of 2^63 - 1 names",
+            [&[0, 0], ten(i64::MAX as u64).as_slice()].concat(),
+        ),
+        (
+            "a scope of as many names as bytes",
+            [&[0, 0], ten((1 << 24) - 72).as_slice()].concat(),
+        ),
+    ] {
+        let size = Size {
+            work: 1 << 26,
+            memory: 1 << 31,
+        };
+        soak.case(name, size, |file| {
+            fill(file, 1 << 24, &[0]);
+            let data = (1 << 24) - 60;
+            header(file, 60, [0, data, data], data);
+            file[60..60 + head.len()].copy_from_slice(&head);
+            compare(file, &[0, 5, 1 << 24, 0].map(|words| vec![7; words]))
+        })?;
+    }
+    for (name, count) in [
+        ("2^32 - 1 callees", u32::MAX as u64),
+        ("2^63 callees", 1 << 63),
+    ] {
+        soak.case(name, file_of(LIMIT), |file| {
+            fill(file, LIMIT, &[0]);
+            let data = (LIMIT - 60) as u32;
+            header(file, 60, [0, 0, data - 1], data);
+            file[60..70].copy_from_slice(&ten(count));
+            compare(file, &[2, 0, 0, 0].map(|words| vec![7; words]))
+        })?;
+    }
+    soak.case("a string of 2^64 - 1 bytes", file_of(LIMIT), |file| {
+        fill(file, LIMIT, &ten(u64::MAX));
+        header(file, 60, [0, 0, 0], (LIMIT - 60) as u32);
+        compare(file, &TABLES.map(|_| Vec::new()))
+    })
+}
+
+/// Parts of hostile pieces in any order, between any three offsets.
+fn any(random: &mut Random, far: &[u32]) -> Compared {
+    let pieces: [&[u8]; 8] = [
+        &[0],
+        &CUT,
+        &ten(0),
+        &ten(1),
+        &ten(u64::MAX),
+        &[0xFF; 11],
+        &[0, 0, 2],
+        &[1],
+    ];
+    let len = 100 + random.below(3000);
+    let mut file = mixed(random, &pieces, len);
+    let size = (file.len() - 60) as u32;
+    let mut offsets = [0; 3].map(|_| random.below(size as usize + 1) as u32);
+    if random.below(8) > 0 {
+        offsets.sort();
+    } else {
+        offsets[random.below(3)] = random.pick(far);
+    }
+    header(&mut file, 60, offsets, size);
+    let rows = random.pick(&[0, 1, len]);
+    let tables = ROWS.map(|row| any_words(random, row * rows));
+    compare(&file, &tables)?;
+    Ok(())
+}

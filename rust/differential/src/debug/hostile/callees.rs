@@ -1,0 +1,129 @@
+//! Callees in orders that are made to take long.
+
+use harness::Random;
+
+use super::{compare, header, same, OFFSET};
+use crate::debug::call;
+use crate::hostile::{ten, Compared, Size, Soak};
+use crate::io::LIMIT;
+
+/// An order, and the address of entry `i` where there are at most `most`.
+type Order = (&'static str, fn(&mut Random, usize, usize) -> u32);
+
+const ORDERS: [Order; 7] = [
+    ("rising", |_, i, _| i as u32),
+    ("all equal", |_, _, _| 7),
+    ("two in turn", |_, i, _| [14, 7][i % 2]),
+    ("rising, the last ones first", |_, i, most| {
+        (i + most / 16) as u32 % (most / 8) as u32
+    }),
+    ("random", |random, _, most| random.below(most) as u32),
+    ("spread over 32 bits", |random, _, _| random.word() as u32),
+    ("falling", |_, i, most| (most - i) as u32),
+];
+
+/// The orders whose rows are worked out beside at 2^30 bytes: there are few, or they stand as they are.
+const LONGEST: [usize; 3] = [0, 1, 2];
+
+/// Where the part begins.
+const BEGIN: usize = 60;
+
+pub fn soak(soak: &mut Soak) -> Compared {
+    for order in LONGEST {
+        longest(soak, ORDERS[order])?;
+    }
+    for (bytes, power) in [(1 << 20, 20), (1 << 22, 22), (1 << 24, 24)] {
+        for order in ORDERS {
+            let mut random = soak.random(6);
+            let size = Size {
+                work: 2 * bytes,
+                memory: 60 * bytes,
+            };
+            let name = format!("callees {}, 2^{power} bytes", order.0);
+            soak.case(&name, size, |file| {
+                let entries = make(file, bytes, order, &mut random);
+                compare(file, &[2, 0, 0, 2 * entries].map(|words| vec![7; words]))
+            })?;
+        }
+    }
+    falling(soak)
+}
+
+/// A section of so many bytes: one string, which all callees name. Answers how many there are.
+fn make(file: &mut Vec<u8>, len: usize, (_, address): Order, random: &mut Random) -> usize {
+    file.clear();
+    file.resize(BEGIN + 10, 0);
+    let mut count = 0;
+    while file.len() + 8 <= len {
+        sleb(file, address(random, count, len / 2));
+        file.push(0);
+        count += 1;
+    }
+    file[BEGIN..BEGIN + 10].copy_from_slice(&ten(count as u64));
+    file.push(0);
+    let size = (file.len() - BEGIN) as u32;
+    header(file, BEGIN, [0, 0, size - 1], size);
+    count
+}
+
+/// An address in as few bytes as it needs.
+fn sleb(file: &mut Vec<u8>, mut address: u32) {
+    while address >= 64 {
+        file.push(address as u8 | 0x80);
+        address >>= 7;
+    }
+    file.push(address as u8);
+}
+
+/// A file of 2^30 bytes.
+fn longest(soak: &mut Soak, order: Order) -> Compared {
+    let size = Size {
+        work: 2 * LIMIT,
+        memory: 3 * LIMIT,
+    };
+    let mut random = soak.random(7);
+    soak.case(&format!("callees {}, 2^30 bytes", order.0), size, |file| {
+        let entries = make(file, LIMIT, order, &mut random);
+        let expected: usize = match order.0 {
+            "rising" => entries,
+            "all equal" => 1,
+            _ => 2,
+        };
+        let (mut strings, mut rows) = (vec![7; 2], vec![7; 2 * expected]);
+        let none = std::ptr::NonNull::dangling().as_ptr();
+        let tables = [
+            (strings.as_mut_ptr(), 2),
+            (none, 0),
+            (none, 0),
+            (rows.as_mut_ptr(), rows.len()),
+        ];
+        let answer = call(file, OFFSET as u32, tables);
+        let right = |i: usize| if expected == entries { i } else { 7 * (i + 1) };
+        let rows = rows.chunks_exact(2).enumerate();
+        for (i, row) in rows {
+            assert_eq!(row, [right(i) as u32, 0], "row {i}");
+        }
+        same(answer, (0, [1, 0, 0, expected]))
+    })
+}
+
+/// What is known to take hours is run where all is asked for.
+fn falling(soak: &mut Soak) -> Compared {
+    let order = ORDERS[6];
+    let name = format!("callees {}, 2^30 bytes", order.0);
+    if !soak.full {
+        println!(
+            "debug    {name:<60} not run without --full: see docs/PERFORMANCE.md for its bound"
+        );
+        return Ok(());
+    }
+    let size = Size {
+        work: 2 * LIMIT,
+        memory: 16 * LIMIT,
+    };
+    let mut random = soak.random(8);
+    soak.case(&name, size, |file| {
+        let entries = make(file, LIMIT, order, &mut random);
+        compare(file, &[2, 0, 0, 2 * entries].map(|words| vec![7; words]))
+    })
+}

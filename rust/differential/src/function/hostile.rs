@@ -1,0 +1,195 @@
+//! Hostile inputs for the function tables.
+
+use harness::Random;
+use published::format::FLAG_OVERFLOWED;
+
+use super::groups::any_table;
+use super::{call, one, Case, Layout, Op, LAYOUTS, ROW};
+use crate::hostile::{file_of, fill, Compared, Size, Soak};
+use crate::io::LIMIT;
+use crate::lent::Reserved;
+use crate::run::Difference;
+use crate::words::{self, any_words, Refusal};
+
+pub fn soak(soak: &mut Soak) -> Compared {
+    for layout in LAYOUTS {
+        let named = |name: &str| format!("{layout:?}, {name}");
+        overlapping(soak, layout)?;
+        let count = (LIMIT / layout.own()) as u32;
+        // All headers flagged, all large headers at byte 0, and the last one where a byte is missing.
+        let cut = |file: &mut Vec<u8>| {
+            fill(file, LIMIT, &flagged(layout));
+            let last = (count as usize - 1) * layout.own();
+            let place = (LIMIT - layout.large() + 1) as u32;
+            point(&mut file[last..last + layout.own()], layout, place);
+        };
+        for (name, op, asked, refusal) in [
+            (
+                "read of 2^30 bytes, the last large header cut",
+                Op::Read,
+                count,
+                (3, count - 1),
+            ),
+            (
+                "refresh of 2^30 bytes, the last one cut",
+                Op::Refresh,
+                count,
+                (3, count - 1),
+            ),
+        ] {
+            soak.case(&named(name), file_of(LIMIT), |file| {
+                cut(file);
+                told(file, layout, op, asked, asked as usize, refusal)
+            })?;
+        }
+        for (name, op) in [("read", Op::Read), ("refresh", Op::Refresh)] {
+            soak.case(
+                &named(&format!("{name}, count 2^32 - 1, 2^30 bytes")),
+                file_of(LIMIT),
+                |file| {
+                    fill(file, LIMIT, &flagged(layout));
+                    let rows = u32::MAX as usize;
+                    told(file, layout, op, u32::MAX, rows, (3, count))
+                },
+            )?;
+            soak.case(
+                &named(&format!("{name}, a row short, 2^30 bytes")),
+                file_of(LIMIT),
+                |file| {
+                    fill(file, LIMIT, &flagged(layout));
+                    told(file, layout, op, count, count as usize - 1, (4, 0))
+                },
+            )?;
+        }
+        most(soak, layout)?;
+    }
+    soak.at_random(1 << 16, any)
+}
+
+/// A header that is flagged and names byte 0.
+fn flagged(layout: Layout) -> Vec<u8> {
+    let mut header = vec![0; layout.own()];
+    header[layout.own() - 1] = FLAG_OVERFLOWED;
+    header
+}
+
+/// Packs a place into a header that is 0 but for its flags.
+fn point(header: &mut [u8], layout: Layout, place: u32) {
+    let [a, b, c, d] = place.to_le_bytes();
+    match layout {
+        Layout::Legacy => {
+            header[..2].copy_from_slice(&[a, b]);
+            header[8..10].copy_from_slice(&[c, d]);
+        }
+        Layout::Modern => {
+            header[..3].copy_from_slice(&[a, b, c]);
+            (header[5], header[6]) = (d << 6, d >> 2);
+        }
+    }
+    assert_eq!(layout.place(header), Some(place.into()));
+}
+
+/// A call that must be refused, into a table of so many rows that can't be written.
+fn told(
+    file: &[u8],
+    layout: Layout,
+    op: Op,
+    count: u32,
+    rows: usize,
+    refusal: Refusal,
+) -> Result<String, Difference> {
+    let table = Reserved::new(rows * ROW).expect("addresses for a table that is not written");
+    case(file, layout, op, count, &[]).compare_told(refusal, &table)?;
+    Ok(words::said(words::code(Err(refusal))))
+}
+
+/// A call on a table at byte 0, with the whole file as span.
+fn case<'a>(file: &'a [u8], layout: Layout, op: Op, count: u32, table: &'a [u32]) -> Case<'a> {
+    Case {
+        op,
+        file,
+        layout: layout as u32,
+        start: 0,
+        count,
+        low: 0,
+        high: file.len(),
+        table,
+    }
+}
+
+/// Four million functions, all flagged, whose large headers overlap in the table itself, byte by byte.
+fn overlapping(soak: &mut Soak, layout: Layout) -> Compared {
+    const COUNT: usize = 1 << 22;
+    let size = Size {
+        work: COUNT * (layout.own() + 4 * ROW),
+        memory: COUNT * 4 * ROW * 8,
+    };
+    for (op, name) in [(Op::Read, "read"), (Op::Refresh, "refresh")] {
+        let mut random = soak.random(4);
+        let name = format!("{layout:?}, {name}, large headers that overlap");
+        soak.case(&name, size, |file| {
+            fill(file, COUNT * layout.own(), &flagged(layout));
+            for header in file.chunks_exact_mut(layout.own()) {
+                point(header, layout, random.below(COUNT) as u32);
+            }
+            let table = vec![7; COUNT * ROW];
+            Ok(case(file, layout, op, COUNT as u32, &table)
+                .compare()?
+                .words(None))
+        })?;
+    }
+    Ok(())
+}
+
+/// As many functions as 2^30 bytes hold, all by the large header at byte 0: rows by the Rust's for one, with its number.
+fn most(soak: &mut Soak, layout: Layout) -> Compared {
+    let count = LIMIT / layout.own();
+    let rows = 4 * ROW * count;
+    let size = Size {
+        work: LIMIT + rows,
+        memory: LIMIT + rows,
+    };
+    for (op, name) in [(Op::Read, "read"), (Op::Refresh, "refresh")] {
+        soak.case(
+            &format!("{layout:?}, {name}, 2^30 bytes of headers"),
+            size,
+            |file| {
+                fill(file, LIMIT, &flagged(layout));
+                let mut table = vec![7; count * ROW];
+                let asked = case(file, layout, op, count as u32, &[]);
+                let code = call(&asked, table.as_mut_ptr(), table.len());
+                let mut row = one(file, layout, 0, 0).expect("a large header at byte 0");
+                let wrong = table.chunks_exact(ROW).enumerate().find(|(i, given)| {
+                    row[1] = *i as u32;
+                    *given != row
+                });
+                match (code == count as u64, wrong) {
+                    (true, None) => Ok(format!("accepted, {count}")),
+                    (_, wrong) => Err(Difference(vec![format!(
+                        "{}, of {count}; first wrong row {wrong:?}",
+                        words::said(code)
+                    )])),
+                }
+            },
+        )?;
+    }
+    Ok(())
+}
+
+/// Small tables with counts, ids and spans of any size.
+fn any(random: &mut Random) -> Compared {
+    let table = any_table(random, None);
+    let words = random.pick(&[0, 15, 16, 16 * 40]);
+    let lent = any_words(random, words);
+    let far = [0, 1, u32::MAX as usize, LIMIT, usize::MAX];
+    for op in super::OPS {
+        let asked = Case {
+            count: random.pick(&[u32::MAX, u32::MAX - 1, table.case(op, &lent).count]),
+            low: random.pick(&far),
+            high: random.pick(&far),
+            ..table.case(op, &lent)
+        };
+        asked.compare()?;
+    }
+    Ok(())
+}
