@@ -60,7 +60,8 @@ pub const ABORT: i32 = 6;
 
 /// Replays these words in a process of its own whose address space is 2,000,000 kilobytes.
 pub fn bounded(words: &[&str]) -> End {
-    let program = std::env::current_exe().expect("this program");
+    // By its process, so that a program built meanwhile is not run in its place.
+    let program = format!("/proc/{}/exe", std::process::id());
     let output = Command::new("sh")
         .arg("-c")
         .arg("ulimit -c 0; ulimit -v 2000000; exec \"$0\" --replay \"$@\"")
