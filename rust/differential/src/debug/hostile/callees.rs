@@ -1,4 +1,5 @@
-//! Callees in orders that are made to take long.
+//! Callees in orders that are made to take long. Addresses that don't rise are gone through in passes, so that their
+//! limit is by passes: docs/PERFORMANCE.md says why.
 
 use harness::Random;
 
@@ -22,21 +23,27 @@ const ORDERS: [Order; 7] = [
     ("falling", |_, i, most| (most - i) as u32),
 ];
 
-/// The orders whose rows are worked out beside at 2^30 bytes: there are few, or they stand as they are.
-const LONGEST: [usize; 3] = [0, 1, 2];
+/// The orders whose rows are worked out beside, since there are few or they stand as they are: the order, the power of
+/// two of the bytes, and how many passes the reader makes over them.
+const WORKED_OUT: [(usize, u32, usize); 3] = [(0, 30, 1), (1, 26, 2), (2, 26, 3)];
+
+/// How many addresses a pass keeps (docs/DECISIONS.md): addresses that don't rise take one more pass than this goes
+/// into the entries.
+const KEPT: usize = 65_536;
 
 /// Where the part begins.
 const BEGIN: usize = 60;
 
 pub fn soak(soak: &mut Soak) -> Compared {
-    for order in LONGEST {
-        longest(soak, ORDERS[order])?;
+    for (order, power, passes) in WORKED_OUT {
+        worked_out(soak, ORDERS[order], power, passes)?;
     }
     for (bytes, power) in [(1 << 20, 20), (1 << 22, 22), (1 << 24, 24)] {
         for order in ORDERS {
             let mut random = soak.random(6);
+            let passes = bytes / 4 / KEPT + 1;
             let size = Size {
-                work: 2 * bytes,
+                work: 2 * bytes * passes,
                 memory: 60 * bytes,
             };
             let name = format!("callees {}, 2^{power} bytes", order.0);
@@ -75,36 +82,41 @@ fn sleb(file: &mut Vec<u8>, mut address: u32) {
     file.push(address as u8);
 }
 
-/// A file of 2^30 bytes.
-fn longest(soak: &mut Soak, order: Order) -> Compared {
+/// Rows that are known without the Rust.
+fn worked_out(soak: &mut Soak, order: Order, power: u32, passes: usize) -> Compared {
+    let bytes = 1 << power;
     let size = Size {
-        work: 2 * LIMIT,
-        memory: 3 * LIMIT,
+        work: 2 * bytes * passes,
+        memory: 3 * bytes,
     };
     let mut random = soak.random(7);
-    soak.case(&format!("callees {}, 2^30 bytes", order.0), size, |file| {
-        let entries = make(file, LIMIT, order, &mut random);
-        let expected: usize = match order.0 {
-            "rising" => entries,
-            "all equal" => 1,
-            _ => 2,
-        };
-        let (mut strings, mut rows) = (vec![7; 2], vec![7; 2 * expected]);
-        let none = std::ptr::NonNull::dangling().as_ptr();
-        let tables = [
-            (strings.as_mut_ptr(), 2),
-            (none, 0),
-            (none, 0),
-            (rows.as_mut_ptr(), rows.len()),
-        ];
-        let answer = call(file, OFFSET as u32, tables);
-        let right = |i: usize| if expected == entries { i } else { 7 * (i + 1) };
-        let rows = rows.chunks_exact(2).enumerate();
-        for (i, row) in rows {
-            assert_eq!(row, [right(i) as u32, 0], "row {i}");
-        }
-        same(answer, (0, [1, 0, 0, expected]))
-    })
+    soak.case(
+        &format!("callees {}, 2^{power} bytes", order.0),
+        size,
+        |file| {
+            let entries = make(file, bytes, order, &mut random);
+            let expected: usize = match order.0 {
+                "rising" => entries,
+                "all equal" => 1,
+                _ => 2,
+            };
+            let (mut strings, mut rows) = (vec![7; 2], vec![7; 2 * expected]);
+            let none = std::ptr::NonNull::dangling().as_ptr();
+            let tables = [
+                (strings.as_mut_ptr(), 2),
+                (none, 0),
+                (none, 0),
+                (rows.as_mut_ptr(), rows.len()),
+            ];
+            let answer = call(file, OFFSET as u32, tables);
+            let right = |i: usize| if expected == entries { i } else { 7 * (i + 1) };
+            let rows = rows.chunks_exact(2).enumerate();
+            for (i, row) in rows {
+                assert_eq!(row, [right(i) as u32, 0], "row {i}");
+            }
+            same(answer, (0, [1, 0, 0, expected]))
+        },
+    )
 }
 
 /// What is known to take hours is run where all is asked for.
