@@ -383,6 +383,9 @@ impl Answer {
 
 /// `OP LAYOUT START COUNT LOW HIGH FILE TABLE`, as a difference prints them.
 pub fn replay(words: &[String]) -> Result<String, Difference> {
+    if let Some(said) = groups::differences::replay(words) {
+        return said;
+    }
     let read = || -> Result<String, String> {
         let [op, layout, start, count, low, high, file, table] = words else {
             return Err(

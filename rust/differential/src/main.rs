@@ -8,6 +8,8 @@ mod buffer;
 #[cfg(published)]
 mod debug;
 #[cfg(published)]
+mod differences;
+#[cfg(published)]
 mod function;
 #[cfg(published)]
 mod hostile;

@@ -1,5 +1,6 @@
 //! Handlers and trailing sections: parsing.rs of the published Rust, in part, beside the calls of libhbc_c.a.
 
+mod differences;
 mod handlers;
 pub mod hostile;
 pub mod record;
@@ -10,6 +11,7 @@ use crate::run::{Difference, Run};
 pub fn compare(run: &mut Run) -> Result<(), Difference> {
     handlers::compare(run)?;
     sections::compare(run)?;
+    run.group("the differences that docs list", differences::listed)?;
     run.group("random", |run| {
         let mut random = run.random(20);
         while run.more() {
@@ -25,6 +27,7 @@ pub fn replay(words: &[String]) -> Result<String, Difference> {
     let replayed = match words.split_first() {
         Some((call, words)) if call == "Handlers" => handlers::replay(words),
         Some((call, words)) if call == "Sections" => sections::replay(words),
+        Some((call, words)) if call == "Zeros" => differences::replay(words),
         _ => Err("--replay parsing needs Handlers or Sections".to_string()),
     };
     replayed.map_err(|why| Difference(vec![why]))

@@ -1,5 +1,7 @@
 //! The groups of inputs on which the two sides of the literals are compared.
 
+mod differences;
+
 use harness::Random;
 
 use super::{literal, series};
@@ -62,6 +64,7 @@ pub fn compare(run: &mut Run) -> Compared {
         run.group("series, 2^30 empty tags", longest_empty)?;
         run.group("series, 10,000,000 values", most_values)?;
     }
+    run.group("the differences that docs list", differences::listed)?;
     run.group("random", random)
 }
 

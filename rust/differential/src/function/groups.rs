@@ -1,5 +1,7 @@
 //! The groups of inputs on which the two sides of the function tables are compared.
 
+pub mod differences;
+
 use harness::Random;
 
 use super::Op::*;
@@ -26,6 +28,7 @@ pub fn compare(run: &mut Run) -> Compared {
     if run.full {
         run.group("10^6 functions over 2^30 bytes", many)?;
     }
+    run.group("the differences that docs list", differences::listed)?;
     run.group("random", random)
 }
 

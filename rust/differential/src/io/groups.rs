@@ -1,5 +1,7 @@
 //! The groups of inputs on which the two sides of the cursor layer are compared.
 
+mod differences;
+
 use bisquepond::sys::{hbc_bits, hbc_remaining};
 use harness::Random;
 use published::io::ByteReader;
@@ -38,6 +40,7 @@ pub fn compare(run: &mut Run) -> Compared {
     run.group("cursors past the end, against document 01", past_the_end)?;
     run.group("an input of 2^30 bytes", longest)?;
     run.group("2^30 + 1 bytes, against document 01", too_long)?;
+    run.group("the differences that docs list", differences::listed)?;
     run.group("random", random)
 }
 

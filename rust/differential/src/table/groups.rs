@@ -1,5 +1,7 @@
 //! The groups of inputs on which the two sides of the string tables are compared.
 
+mod differences;
+
 use harness::Random;
 
 use super::bytes_of;
@@ -56,6 +58,7 @@ pub fn compare(run: &mut Run) -> Compared {
         run.group("strings of 2^30 bytes", longest_strings)?;
         run.group("10,000,000 strings", most_strings)?;
     }
+    run.group("the differences that docs list", differences::listed)?;
     run.group("random", random)
 }
 

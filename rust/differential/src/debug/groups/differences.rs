@@ -43,7 +43,10 @@ fn short_header(run: &mut Run) -> Compared {
     let ours = on(run, &file, 1, &Default::default())?;
     assert_eq!(ours.code, code(Err((3, 0))));
     let error = DebugInfo::parse(&file, 1).expect_err("the header is short");
-    assert!(error.to_string().contains("unexpected end of file"));
+    assert_eq!(
+        error.to_string(),
+        "parse error: unexpected end of file: needed 4 bytes at offset 0 but only 1 remain"
+    );
     assert!(try_parse_debug_info(&file, 1).is_none());
     Ok(())
 }

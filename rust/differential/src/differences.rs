@@ -1,0 +1,98 @@
+//! The rows of docs/DIFFERENCES.md that are run: each on its smallest input, with the answers of both sides as the
+//! document has them, so that a change of either is noticed.
+
+use std::fmt::Debug;
+use std::os::unix::process::ExitStatusExt;
+use std::process::Command;
+
+use bisquepond::Refusal;
+use published::error::{Error, Result as Published};
+
+use crate::run::{number, Difference, Run};
+
+pub type Compared = Result<(), Difference>;
+
+/// An answer of the Rust, its error as a text.
+pub fn text<T>(answer: Published<T>) -> Result<T, String> {
+    answer.map_err(|error| match error {
+        Error::Parse(text) => text,
+        error => panic!("an error that no reader has: {error}"),
+    })
+}
+
+/// An answer of ours, its refusal as a number and a place.
+pub fn told<T>(answer: Result<T, Refusal>) -> Result<T, (u32, u32)> {
+    answer.map_err(|refusal| (refusal.number, refusal.place))
+}
+
+/// One row: what each side answers, and what the document says that it answers.
+pub fn row<R: PartialEq + Debug, O: PartialEq + Debug>(
+    run: &mut Run,
+    what: &str,
+    rust: (R, R),
+    ours: (O, O),
+) -> Compared {
+    side(what, "the Rust", rust)?;
+    side(what, "libhbc_c", ours)?;
+    run.equal();
+    Ok(())
+}
+
+fn side<T: PartialEq + Debug>(what: &str, side: &str, (given, listed): (T, T)) -> Compared {
+    if given == listed {
+        return Ok(());
+    }
+    Err(Difference(vec![
+        format!("listed    {what}"),
+        format!("{side}  {given:?}"),
+        format!("document  {listed:?}"),
+    ]))
+}
+
+/// How a program ended: with a line that it said, or by a signal and with a line of error.
+#[derive(PartialEq, Debug)]
+pub enum End {
+    Said(String),
+    Signal(i32, String),
+}
+
+pub const ABORT: i32 = 6;
+
+/// Replays these words in a process of its own whose address space is 2,000,000 kilobytes.
+pub fn bounded(words: &[&str]) -> End {
+    // By its process, so that a program built meanwhile is not run in its place.
+    let program = format!("/proc/{}/exe", std::process::id());
+    let output = Command::new("sh")
+        .arg("-c")
+        .arg("ulimit -c 0; ulimit -v 2000000; exec \"$0\" --replay \"$@\"")
+        .arg(program)
+        .args(words)
+        .output()
+        .expect("a shell");
+    let line = |bytes: &[u8]| {
+        let text = String::from_utf8_lossy(bytes);
+        text.lines().next().unwrap_or_default().to_string()
+    };
+    match output.status.signal() {
+        Some(signal) => End::Signal(signal, line(&output.stderr)),
+        None => End::Said(line(&output.stdout)),
+    }
+}
+
+/// `SIDE BYTES`: what `Rust` or `ours` says of so many zeros.
+pub fn zeros(
+    words: &[String],
+    rust: impl FnOnce(&[u8]) -> String,
+    ours: impl FnOnce(&[u8]) -> String,
+) -> Result<String, Difference> {
+    let wrong = |why| Difference(vec![why]);
+    let [side, bytes] = words else {
+        return Err(wrong("Zeros needs SIDE BYTES".to_string()));
+    };
+    let file = vec![0; number(bytes).map_err(wrong)?];
+    match side.as_str() {
+        "Rust" => Ok(rust(&file)),
+        "ours" => Ok(ours(&file)),
+        _ => Err(wrong("SIDE is Rust or ours".to_string())),
+    }
+}
