@@ -1,6 +1,6 @@
 -- The laws of fields, of the or and of little-endian numbers, each once, over every bit, width and word size.
 use Prim.Native.Nat.{ℕ, zero, suc, _+_, _*_, _-_, _/_, _%_, _^_, _≤_, _<_}
-use mathlib.Core.Path.{_≡_, refl, ap, sym, _∙_, subst}
+use mathlib.Core.Path.{_≡_, sym, subst}
 use mathlib.Core.List.{List, [], _∷_, _++_}
 use native.Mathlib.Nat.{add-mul-div-left, add-mul-mod-self-left, mul-assoc, add-assoc, mul-add, zero-add, div-eq-of-lt, div-div-eq-div-mul, add-sub-of-le, pow-succ', one-mul, add-zero, mod-eq-of-lt, mod-lt, zero-mod, div-le-self, lt-of-le-of-lt, lt-of-lt-of-le, mul-mod-left, mul-suc}
 use native.Mathlib.Omega.{arith}

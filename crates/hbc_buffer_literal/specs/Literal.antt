@@ -4,7 +4,7 @@ use mathlib.Core.List.{List}
 use mathlib.Core.Bool.{true, false, cond}
 use lib.IntN.{ℤ, pos, negsuc}
 use lib.Dec.{eqb}
-use lib.Ieee.{ofBits, toBits, binary64}
+use lib.Ieee.{ofBits, binary64}
 use Rattle.hbc_io.specs.Outcome.{Outcome, got, refused, valued, twos}
 use Rattle.hbc_io.specs.Plain.{plainAt}
 use Rattle.hbc_io.specs.declared.Cursor.{Cursor}
@@ -44,14 +44,6 @@ kindOf (Integer z) = 5
 abbrev pub word32 : ℤ → ℕ
 word32 (pos n) = n
 word32 (negsuc n) = 2 ^ 32 - suc n
-
--- 64-bit payload: float bits, string number, integer, else 0
-abbrev pub payloadOf : Literal → ℕ
-payloadOf Null = 0
-payloadOf (Truth b) = 0
-payloadOf (Number x) = toBits binary64 x
-payloadOf (String n) = n
-payloadOf (Integer z) = word32 z
 
 -- what each case of an answer says
 abbrev pub ofLiteral : ReadLiteral → Outcome Literal

@@ -1,10 +1,9 @@
 -- The two ways a read of the debug section is told.
-use mathlib.Core.Path.{_≡_, refl, sym, ap, _∙_}
+use mathlib.Core.Path.{_≡_, sym, ap, _∙_}
 use mathlib.Core.List.{List}
 use Prim.Native.Nat.{ℕ}
 use Rattle.hbc_io.specs.declared.Refusal.{Refusal}
-use Rattle.hbc_debug_parts.specs.Parts.{partsOf}
-use Rattle.hbc_debug.specs.Debug.{Tables, ReadSection, answerIn}
+use Rattle.hbc_debug.specs.Debug.{Tables, ReadSection}
 use Rattle.hbc_debug.specs.declared.Counts.{Counts}
 use Rattle.hbc_debug.specs.declared.ReadDebug.{ReadDebug}
 use Rattle.hbc_debug.specs.declared.ReadDebug.the-variants as answer

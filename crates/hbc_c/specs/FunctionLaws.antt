@@ -1,26 +1,21 @@
 -- The laws of Function.
-use Prim.Native.Nat.{ℕ, _*_, _+_, _-_, _≤_, _<_}
+use Prim.Native.Nat.{ℕ, _*_, _≤_, _<_}
 use mathlib.Core.Path.{_≡_, refl, ap, sym, _∙_}
 use mathlib.Core.List.{List}
-use mathlib.Core.Bool.{Bool, true, false, cond}
 use native.Mathlib.Omega.{arith}
 use lib.ListN.{length, take, drop}
-use lib.Seq.{length-take-le}
-use lib.Dec.{eqb}
 use borrow.Author.Tests.{lt-ltb, le-ltb, eq-eqb, ne-eqb}
 use borrow.Rule.Slice.PartMut.{putMid}
 use Rattle.hbc_io.specs.Outcome.{limit, refusalAt}
 use Rattle.hbc_io.specs.declared.Refusal.{Refusal}
 use Rattle.hbc_header.specs.declared.Layout.{Layout}
 use Rattle.hbc_header.specs.declared.Layout.the-variants as lay
-use Rattle.hbc_header.specs.declared.Record.{Record}
-use Rattle.hbc_header.specs.declared.Function.{Function}
-use Rattle.hbc_header.specs.declared.Function.the-variants as fun
-use Rattle.hbc_header.specs.Answer.{Answer, gives, refuses, refusedAt, asked, ofFunction}
-use Rattle.hbc_header.specs.Header.{functionAt, readFunction}
-use Rattle.hbc_header.specs.Row.{width, rowWords, rowInto}
-use Rattle.hbc_header.specs.Laws.{read-at, into-row}
-use Rattle.hbc_function.specs.Table.{putRow, written}
+use Rattle.hbc_header.specs.declared.Reading.{Reading}
+use Rattle.hbc_header.specs.declared.Reading.the-variants as reading
+use Rattle.hbc_header.specs.Answer.{Answer, gives, refuses, refusedAt, asked, ofReading}
+use Rattle.hbc_header.specs.Header.{readFunction}
+use Rattle.hbc_header.specs.Row.{width, rowInto}
+use Rattle.hbc_header.specs.Laws.{read-at}
 use Rattle.hbc_function.specs.Laws.{row-put}
 use Rattle.hbc_c.specs.Code.{codeOf}
 use Rattle.hbc_c.specs.Function.{named, codeIn, one, rowAnswer, rowTable, Tabled}
@@ -84,17 +79,13 @@ module _ (s : List ℕ) (layout : Layout) (start i : ℕ) (t : List ℕ) where
       unfolding rowAnswer
       row-small l p = row-left {x = refusalAt 4 0} (sym (simp (le-ltb _ _ h, le-ltb _ _ k, lt-ltb _ (1 * width) l))) p
 
-      module _ (l : width ≤ length t) {a : Function} (e : ofFunction a ≡ readFunction s layout start i) where
-        pub row-stopped : {x : Refusal} {r : ℕ} → a ≡ fun.Refused x → r ≡ codeOf x → Tabled (one 1) (rowAnswer s layout start i (length t)) (rowTable s layout start i t) r t
-        row-stopped q p = row-left (ap asked (sym (ap ofFunction q) ∙ e) ∙ row-is s layout start i (length t) h k l) p
+      module _ (l : width ≤ length t) {a : Reading} (e : ofReading a ≡ asked (readFunction s layout start i)) where
+        pub row-stopped : {x : Refusal} {r : ℕ} → a ≡ reading.Refused x → r ≡ codeOf x → Tabled (one 1) (rowAnswer s layout start i (length t)) (rowTable s layout start i t) r t
+        row-stopped q p = row-left (sym (ap ofReading q) ∙ e ∙ row-is s layout start i (length t) h k l) p
 
-        pub row-read : {x : Record} {row : List ℕ} → a ≡ fun.Read x → row ≡ rowWords x
+        pub row-read : {row : List ℕ} → a ≡ reading.Read → row ≡ rowInto (readFunction s layout start i) (take 16 (drop 0 t))
             → Tabled (one 1) (rowAnswer s layout start i (length t)) (rowTable s layout start i t) 1 (putMid 0 16 t row)
         unfolding rowTable
-        row-read {x} {row} q p =
-            let found : gives x ≡ readFunction s layout start i = sym (ap ofFunction q) ∙ e in
-            let g : gives tt ≡ rowAnswer s layout start i (length t) = ap asked found ∙ row-is s layout start i (length t) h k l in
-            let part : List ℕ = take 16 (drop 0 t) in
-            let into : row ≡ rowInto (readFunction s layout start i) part =
-            p ∙ into-row (gives x) part (length-take-le 16 t l) ∙ ap (λ (o : Answer Record). rowInto o part) found in
-            rw (← g) (record { says = refl; leaves = row-put s layout start i 0 t h k (omega arith) into })
+        row-read q p =
+            let g : gives tt ≡ rowAnswer s layout start i (length t) = sym (ap ofReading q) ∙ e ∙ row-is s layout start i (length t) h k l in
+            rw (← g) (record { says = refl; leaves = row-put s layout start i 0 t h k (omega arith) p })

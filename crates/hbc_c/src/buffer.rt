@@ -3,7 +3,6 @@ ghost use mathlib.Core.Path.{_≡_};
 ghost use Rattle.hbc_bits.specs.Bits.{field};
 ghost use Rattle.hbc_io.specs.Outcome.{cursorAt};
 ghost use Rattle.hbc_buffer_literal.specs.Literal.{literalAt, word32};
-ghost use Rattle.hbc_buffer.specs.Series.{seriesAnswer};
 ghost use Rattle.hbc_c.specs.Buffer.{ToldLiteral, ToldSeries, ToldObject, objectCode};
 use crate::code;
 use hbc_buffer::Series;

@@ -8,12 +8,11 @@ ghost use Rattle.hbc_function.specs.Refresh.{refreshAnswer, refreshTable};
 ghost use Rattle.hbc_c.specs.Function.{named, one, truth, rowAnswer, rowTable, meetsAnswer, Tabled, codeIn};
 use crate::code;
 use hbc_function::Refreshed;
-use hbc_header::Function;
 use hbc_header::Layout;
 use hbc_header::Reading;
 use hbc_header::WIDTH;
-use hbc_header::read_function;
-use hbc_header::row_words;
+use hbc_header::check_function;
+use hbc_header::function_row;
 use hbc_io::LIMIT;
 use hbc_io::refuse;
 
@@ -83,18 +82,6 @@ pub extern "C" fn hbc_refresh_functions(
     code(refuse(12, 0))
 }
 
-// dst becomes src, word by word.
-fn copy(src: &[u32], dst: &mut [u32])
-    requires { ⌜ length (now src) ≡ length (now dst) ⌝ }
-    ensures { λ _. ⌜ now (dst .exit) ≡ now (src .entry) ⌝ }
-{
-    let mut i = 0;
-    while i < src.len() {
-        dst[i] = src[i];
-        i += 1;
-    }
-}
-
 fn read_row(file: &[u8], layout: Layout, start: usize, id: u32, table: &mut [u32]) -> u64
     ensures { λ r. ⌜ Tabled (one 1) (rowAnswer (now (file .entry)) layout start id (length (now (table .entry)))) (rowTable (now (file .entry)) layout start id (now (table .entry))) r (now (table .exit)) ⌝ }
 {
@@ -107,13 +94,12 @@ fn read_row(file: &[u8], layout: Layout, start: usize, id: u32, table: &mut [u32
     if table.len() < WIDTH {
         return code(refuse(4, 0));
     }
-    match read_function(file, layout, start, id) {
-        Function::Read(r) => {
-            let words = row_words(r);
-            copy(&words, &mut table[0..WIDTH]);
+    match check_function(file, layout, start, id) {
+        Reading::Read => {
+            function_row(file, layout, start, id, &mut table[0..WIDTH]);
             1
         }
-        Function::Refused(r) => code(r),
+        Reading::Refused(r) => code(r),
     }
 }
 

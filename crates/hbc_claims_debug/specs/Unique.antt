@@ -9,7 +9,6 @@ use Rattle.hbc_debug_items.specs.declared.ReadHeld.{ReadHeld}
 use Rattle.hbc_debug_items.specs.declared.ReadHeld.the-variants as held
 use Rattle.hbc_debug.specs.Debug.{tables}
 use Rattle.hbc_debug_items.proofs.read_bits.Reads as of-read-bits
-use Rattle.hbc_debug_items.proofs.rows.put_row.Reads as of-put-row
 use Rattle.hbc_debug_parts.proofs.find_parts.Reads as of-find-parts
 use Rattle.hbc_debug_parts.proofs.part_bytes.Reads as of-part-bytes
 use Rattle.hbc_debug_strings.proofs.count_strings.Reads as of-count-strings
@@ -30,7 +29,6 @@ held-one (held.Refused v n) (held.Got w m) e = let z : _≡_ {A = ℕ} 0 1 = cc 
 
 pub data Call : Type 0 where
   read_bits : Call
-  put_row : Call
   find_parts : Call
   part_bytes : Call
   count_strings : Call
@@ -43,7 +41,6 @@ pub data Call : Type 0 where
 
 abbrev pub Determined : Call → Type 0
 Determined read_bits = One of-read-bits.Learnt
-Determined put_row = Words of-put-row.Learnt (λ s. now (s .0))
 Determined find_parts = One of-find-parts.Learnt
 Determined part_bytes = Seen of-part-bytes.Learnt (λ r. now r)
 Determined count_strings = One of-count-strings.Learnt
@@ -56,7 +53,6 @@ Determined read_debug = Both of-read-debug.Learnt (λ s. tables (now (s .1 .1 .0
 
 pub determined : (c : Call) → Determined c
 determined read_bits = λ k a r q s u e f. held-one r q (same e f)
-determined put_row = λ k a r q s u. same
 determined find_parts = λ k a r q s u. same
 determined part_bytes = λ k a r q s u. same
 determined count_strings = λ k a r q s u e f. ap (λ (n : ℕ). record { strings = n }) (same e f)

@@ -1,7 +1,6 @@
 pub mod Bits
 pub mod Untils
 pub mod Words
-pub mod RowLaws
 pub mod Passes
 pub mod Moves
 pub mod Reading

@@ -4,7 +4,7 @@ use mathlib.Core.Bool.{Bool, true, false, cond}
 use mathlib.Core.List.{List}
 use Prim.Native.Nat.{ℕ, suc, _-_, _%_, _^_, _≤_, _<_}
 use native.Mathlib.Omega.{arith}
-use borrow.Author.Tests.{ltb-true, ltb-false, leb-true, lt-leb, le-ltb}
+use borrow.Author.Tests.{ltb-true, ltb-false, leb-true, lt-leb}
 use lib.Dec.{ltb, leb}
 use lib.IntN.{ℤ, pos, negsuc}
 use mir.Syntax.{w64}
@@ -15,7 +15,7 @@ use Rattle.hbc_io_leb.specs.Answers.{slebOf}
 use Rattle.hbc_io_leb.specs.declared.Sleb.{Sleb}
 use Rattle.hbc_io.specs.declared.Cursor.{Cursor}
 use Rattle.hbc_io.proofs.Reading.{valued-got}
-use Rattle.hbc_debug_items.specs.Signed.{slebAt, bitsOf, upTo, below, natural, low32}
+use Rattle.hbc_debug_items.specs.Signed.{slebAt, bitsOf, upTo, natural, low32}
 
 twos-fits : (v : ℕ) → v < 2 ^ 64 → SFits w64 (twos 64 v)
 twos-fits v h = go (ltb v (2 ^ 63)) refl
@@ -40,11 +40,6 @@ pub bits-up-to : (m : ℕ) (z : ℤ) → SFits w64 z → m < 2 ^ 63 → leb (bit
 unfolding bitsOf upTo
 bits-up-to m (pos n) h k = refl
 bits-up-to m (negsuc n) h k = lt-leb (2 ^ 64 - suc n) m (omega (arith, h .sfits))
-
-pub bits-below : (m : ℕ) (z : ℤ) → SFits w64 z → m < 2 ^ 63 → ltb (bitsOf z) m ≡ below m z
-unfolding bitsOf below
-bits-below m (pos n) h k = refl
-bits-below m (negsuc n) h k = le-ltb (2 ^ 64 - suc n) m (omega (arith, h .sfits))
 
 pub bits-low : (z : ℤ) → SFits w64 z → bitsOf z % 2 ^ 32 ≡ low32 z
 unfolding bitsOf low32

@@ -1,13 +1,11 @@
 // What the parts of the debug section share: signed numbers as the 64 bits that hold them, so that every test on one is a test of
-// unsigned numbers, and rows of a lent table.
+// unsigned numbers.
 ghost use mathlib.Core.Path.{_≡_};
 ghost use Rattle.hbc_io.specs.Outcome.{valued};
 ghost use Rattle.hbc_debug_items.specs.Signed.{slebAt, bitsOf, heldOf, ofHeld};
 use hbc_io::Cursor;
 use hbc_io::Refusal;
 use hbc_io_leb::ReadSleb;
-
-pub mod rows;
 
 // What a signed number's bytes say, with the number as its 64 bits.
 pub struct Held {

@@ -11,9 +11,9 @@ ghost use Rattle.hbc_debug_scopes.specs.Heads.{headOf, ofHead, wordBits}
 use hbc_debug_items::Failed;
 use hbc_debug_items::ReadHeld;
 use hbc_debug_items::read_bits;
-use hbc_debug_items::rows::put_row;
 use hbc_io::Cursor;
 use hbc_io::refuse;
+use hbc_rows::put_words;
 
 // The words of a scope's row, and which they are.
 pub const SCOPE_WORDS: usize = 5;
@@ -153,7 +153,7 @@ fn write_names(
             }
             ReadHeld::Got(name, next) => {
                 let row = [word_below(name.bits, strings)];
-                put_row(names, to, &row);
+                put_words(names, to, &row);
                 here = next;
                 n += 1;
                 to += 1;
@@ -221,7 +221,7 @@ pub fn write_scopes(s: &[u8], strings: u32, rows: &mut [u32], names: &mut [u32])
                     first as u32,
                     k.count as u32,
                 ];
-                put_row(rows, at, &row);
+                put_words(rows, at, &row);
                 let next = k.next;
                 here = next;
                 at += SCOPE_WORDS;

@@ -5,12 +5,12 @@ ghost use lib.ListN.{length};
 ghost use lib.Seq.{sets};
 ghost use Rattle.hbc_io.specs.Outcome.{limit};
 ghost use Rattle.hbc_debug_strings.specs.Strings.{stringsOf, partToFile, stringWords, stringTable};
-use hbc_debug_items::rows::put_row;
 use hbc_debug_parts::InFile;
 use hbc_io::Cursor;
 use hbc_io::LIMIT;
 use hbc_io::ReadSpan;
 use hbc_io_text::read_length_prefixed_string;
+use hbc_rows::put_words;
 
 // The words of a string's row: start in the file, byte length.
 pub const STRING_WORDS: usize = 2;
@@ -65,7 +65,7 @@ fn write_rows(part: &[u8], base: InFile, rows: &mut [u32])
             ReadSpan::Got(p, next) => {
                 let start = part_to_file(base, p.start);
                 let row = [start.0 as u32, p.len as u32];
-                put_row(rows, at, &row);
+                put_words(rows, at, &row);
                 here = next;
                 at += STRING_WORDS;
                 left -= 1;

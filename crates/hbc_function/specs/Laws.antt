@@ -1,7 +1,7 @@
 -- The laws of scans and rows, over any functions and any choice among them, and of the two promises, one a way out of the calls.
-use Prim.Native.Nat.{ℕ, zero, suc, _+_, _*_, _-_, _≤_, _<_}
+use Prim.Native.Nat.{ℕ, _+_, _*_, _-_, _≤_, _<_}
 use mathlib.Core.Path.{_≡_, refl, ap, sym, _∙_}
-use mathlib.Core.List.{List, [], _∷_, _++_, append-assoc}
+use mathlib.Core.List.{List}
 use mathlib.Core.Bool.{Bool, true, false, cond}
 use native.Mathlib.Omega.{arith}
 use native.Mathlib.Numerals.{add-one}
@@ -26,7 +26,7 @@ use Rattle.hbc_header.specs.Laws.{read-at, into-row}
 use Rattle.hbc_header_ground.specs.Meets.{meets}
 use Rattle.hbc_function.specs.declared.Refreshed.{Refreshed}
 use Rattle.hbc_function.specs.declared.Refreshed.the-variants as refreshed
-use Rattle.hbc_function.specs.Table.{counted, step, scan, putRow, putRows, all, written, readAnswer, readTable, ReadFunctions}
+use Rattle.hbc_function.specs.Table.{counted, step, scan, putRow, putRows, all, readAnswer, readTable, ReadFunctions}
 use Rattle.hbc_function.specs.Refresh.{ofRefreshed, held, refreshAnswer, refreshTable, RefreshFunctions}
 
 -- ---- one function more
@@ -40,10 +40,6 @@ refused-by n (gives r) e = let z : _≡_ {A = ℕ} 0 1 = cc in absurd (omega ari
 refused-by n (refuses y) {x} e = let q : y ≡ x = cc in rw q
 
 module _ {chosen : Bool} (n : ℕ) (a : Answer Record) where
-  pub step-not : chosen ≡ false → gives n ≡ step chosen (gives n) a
-  unfolding step
-  step-not e = rw e
-
   pub step-read : chosen ≡ true → gives tt ≡ asked a → gives (n + 1) ≡ step chosen (gives n) a
   unfolding step
   step-read e f = rw e (sym (counted-by n a (sym f)))
@@ -51,16 +47,6 @@ module _ {chosen : Bool} (n : ℕ) (a : Answer Record) where
   pub step-refused : {x : Refusal} → chosen ≡ true → refuses x ≡ asked a → refuses x ≡ step chosen (gives n) a
   unfolding step
   step-refused e f = rw e (sym (refused-by n a (sym f)))
-
--- it counts at most one
-counted-le : (n k : ℕ) (a : Answer Record) → gives k ≡ counted n a → k ≤ n + 1
-counted-le n k (gives r) e = let h : k ≡ n + 1 = cc in omega arith
-counted-le n k (refuses x) e = let z : _≡_ {A = ℕ} 0 1 = cc in omega arith
-
-pub step-le : (chosen : Bool) (n k : ℕ) (a : Answer Record) → gives k ≡ step chosen (gives n) a → k ≤ n + 1
-unfolding step
-step-le false n k a e = let h : k ≡ n = cc in omega arith
-step-le true n k a e = counted-le n k a e
 
 -- a refusal stays
 step-kept : (chosen : Bool) (a : Answer Record) (x : Refusal) → step chosen (refuses x) a ≡ refuses x
@@ -125,10 +111,6 @@ row-put s layout start id i t h k l e =
 pub record Put (chosen : ℕ → Bool) (f : ℕ → Answer Record) (i : ℕ) (t₀ t : List ℕ) : Type 0 where
   pub is : t ≡ putRows chosen f t₀ i
   pub long : length t ≡ length t₀
-
-pub put-none : {chosen : ℕ → Bool} {f : ℕ → Answer Record} {t : List ℕ} → Put chosen f 0 t t
-unfolding putRows
-put-none = record { is = refl; long = refl }
 
 pub put-more : {chosen : ℕ → Bool} {f : ℕ → Answer Record} {i : ℕ} {t₀ t t′ : List ℕ} → Put chosen f i t₀ t
     → t′ ≡ cond (chosen i) (putRow i (f i) t) t → length t′ ≡ length t → Put chosen f (i + 1) t₀ t′

@@ -2,7 +2,7 @@
 use Prim.Native.Nat.{ℕ, zero, suc, _+_, _-_, _≤_, _<_}
 use mathlib.Core.Path.{_≡_, refl, ap, sym, _∙_}
 use mathlib.Core.List.{List}
-use mathlib.Core.Bool.{Bool, true, false, cond}
+use mathlib.Core.Bool.{Bool, true, false}
 use native.Mathlib.Omega.{arith}
 use native.Mathlib.Numerals.{add-one}
 use native.Mathlib.Decide.{le-ind}
@@ -14,7 +14,7 @@ use Rattle.hbc_header.specs.declared.Record.{Record}
 use Rattle.hbc_header.specs.Answer.{Answer, gives, refuses, asked}
 use Rattle.hbc_function.specs.Table.{counted, step, scan, putRow, putRows, all}
 use Rattle.hbc_function.specs.Next.{Skipped, Next}
-use Rattle.hbc_function.specs.Laws.{step-read, step-refused, scan-more, scan-kept, scan-stops, scan-done, Put, put-none, put-more}
+use Rattle.hbc_function.specs.Laws.{step-read, step-refused, scan-more, scan-stops, scan-done, Put, put-more}
 
 -- ---- one function more that is not chosen
 

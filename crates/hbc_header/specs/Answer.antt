@@ -27,15 +27,6 @@ abbrev pub andThen : {A B : Type 0} → Answer A → (A → Answer B) → Answer
 andThen (gives a) f = f a
 andThen (refuses r) f = refuses r
 
--- document 01's number of an answer, 0 where nothing is refused, and its place
-abbrev pub numberOf : {A : Type 0} → Answer A → ℕ
-numberOf (gives a) = 0
-numberOf (refuses r) = r .number
-
-abbrev pub placeOf : {A : Type 0} → Answer A → ℕ
-placeOf (gives a) = 0
-placeOf (refuses r) = r .place
-
 -- the answer for one function: a record, legacy or modern, with the values of its fields
 abbrev pub ofFunction : Function → Answer Record
 ofFunction (fun.Read r) = gives r

@@ -19,9 +19,9 @@ use Rattle.hbc_header.specs.declared.Ground.{Ground}
 use Rattle.hbc_header.specs.declared.Ground.the-variants as ground
 use Rattle.hbc_header.specs.declared.Where.{Where}
 use Rattle.hbc_header.specs.declared.Where.the-variants as wh
-use Rattle.hbc_header.specs.Answer.{Answer, gives, refuses, refusedAt}
+use Rattle.hbc_header.specs.Answer.{Answer, refusedAt}
 use Rattle.hbc_header.specs.Record.{legacyOf, modernOf, overflowed, legacyPlace, modernPlace}
-use Rattle.hbc_header.specs.Header.{groundBy, legacyGround, modernGround, groundAt, groundIn, whereOf, legacyWhere, modernWhere, legacyFound, modernFound, legacyAt, modernAt, functionAt, opened, readFunction}
+use Rattle.hbc_header.specs.Header.{groundBy, legacyGround, modernGround, groundAt, groundIn, whereOf, legacyWhere, modernWhere, legacyFound, modernFound, legacyAt, modernAt, functionAt, readFunction}
 use Rattle.hbc_header.specs.Row.{width, rowOf, rowInto}
 
 -- ---- the ground, over the header's bytes, its flag and its place

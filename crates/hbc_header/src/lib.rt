@@ -1,6 +1,6 @@
 // One function of a header table: its record or a refusal, its record as row words, and what it is read from.
 ghost use mathlib.Core.Path.{_≡_};
-ghost use Prim.Native.Nat.{_+_, _*_, _^_, _≤_, _<_};
+ghost use Prim.Native.Nat.{_+_, _*_, _<_};
 ghost use lib.ListN.{length};
 ghost use Rattle.hbc_header.specs.Answer.{ofFunction, ofReading, asked};
 ghost use Rattle.hbc_header.specs.Header.{sizeOf, largeOf, readFunction, groundIn};

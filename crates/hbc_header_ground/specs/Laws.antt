@@ -2,13 +2,13 @@
 use Prim.Native.Nat.{ℕ, _+_, _≤_, _<_, min, max}
 use mathlib.Core.Path.{_≡_, sym}
 use mathlib.Core.List.{List}
-use mathlib.Core.Bool.{Bool, true, false, cond}
+use mathlib.Core.Bool.{true, false}
 use lib.ListN.{length}
 use borrow.Author.Tests.{le-ltb, lt-ltb}
 use Rattle.hbc_io.specs.Outcome.{limit}
 use Rattle.hbc_header.specs.declared.Layout.{Layout}
 use Rattle.hbc_header.specs.declared.Ground.{Ground}
-use Rattle.hbc_header.specs.Header.{sizeOf, largeOf, groundAt, groundIn}
+use Rattle.hbc_header.specs.Header.{sizeOf, largeOf, groundIn}
 use Rattle.hbc_header.specs.Laws.{in-file}
 use Rattle.hbc_header_ground.specs.Meets.{overlap, groundMeets, meets, meetsIn}
 

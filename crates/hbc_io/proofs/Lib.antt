@@ -1,4 +1,5 @@
 pub mod Reading
 pub mod Signs
 pub mod Plains
+pub mod Aligns
 pub mod Alone

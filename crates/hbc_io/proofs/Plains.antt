@@ -1,5 +1,5 @@
 -- What a plain read found says of the bytes, and when it finds them, over the width.
-use mathlib.Core.Path.{_≡_, refl, sym, ap, _∙_}
+use mathlib.Core.Path.{_≡_}
 use mathlib.Core.List.{List}
 use Prim.Native.Nat.{ℕ, zero, suc, _+_, _-_, _*_, _^_, _≤_, _<_}
 use native.Mathlib.Omega.{arith}
@@ -9,7 +9,7 @@ use lib.Pow.{pow-mono}
 use lib.Dec.{ltb}
 use Rattle.hbc_bits.specs.Bits.{leAt}
 use Rattle.hbc_bits.specs.Laws.{Bytes, le-lt, le-step}
-use Rattle.hbc_io.specs.Outcome.{Outcome, got, refused, cursorAt, refusal, limit, left}
+use Rattle.hbc_io.specs.Outcome.{got, refused, cursorAt, refusal, limit, left}
 use Rattle.hbc_io.specs.Plain.{started, needing, plainAt, bytesAt, spanOf}
 use Rattle.hbc_io.specs.declared.Cursor.{Cursor}
 use Rattle.hbc_io.specs.declared.Refusal.{Refusal}

@@ -15,6 +15,10 @@ found of e f = sym e ∙ ap of f
 pub not-both : {A : Type 0} {o : Outcome A} {v : A} {n m : Cursor} {r : Refusal} → o ≡ got v n → o ≡ refused r m → ⊥
 not-both e f = let z : _≡_ {A = ℕ} 0 1 = cc in omega arith
 
+-- what was got, and where, is one thing
+pub same-got : {A : Type 0} (v u : A) (c d : Cursor) → got v c ≡ got u d → (v ≡ u) × (c ≡ d)
+same-got v u c d e = (cc, cc)
+
 -- a test that refuses was not met where something was got
 pub past-test : {A : Type 0} (b : Bool) (k : Refusal) (m : Cursor) (o : Outcome A) (v : A) (n : Cursor) → cond b (refused k m) o ≡ got v n → (b ≡ false) × (o ≡ got v n)
 past-test true k m o v n e = absurd (not-both e refl)

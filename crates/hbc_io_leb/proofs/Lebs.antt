@@ -1,20 +1,20 @@
 -- Laws of the groups of seven bits, and of the bytes that go on.
-use mathlib.Core.Path.{_≡_, refl, sym, ap, _∙_}
+use mathlib.Core.Path.{_≡_, sym, ap, _∙_}
 use mathlib.Core.List.{List, [], _∷_}
 use mathlib.Core.Bool.{Bool, true, false, cond}
 use lib.Dec.{ltb, leb}
-use Prim.Native.Nat.{ℕ, zero, suc, _+_, _-_, _*_, _/_, _%_, _^_, _≤_, _<_}
+use Prim.Native.Nat.{ℕ, zero, suc, _+_, _*_, _%_, _^_, _≤_, _<_}
 use native.Mathlib.Omega.{arith}
-use native.Mathlib.Nat.{mul-suc, mul-left-comm, add-zero, mul-mod-left, mod-eq-of-lt}
+use native.Mathlib.Nat.{mul-suc, mul-left-comm, mod-eq-of-lt}
 use native.Mathlib.Numerals.{add-one}
 use borrow.Author.Tests.{lt-ltb, le-ltb, le-leb, lt-leb, ltb-false, leb-false}
 use lib.ListN.{length, getD, take, drop, drop-of-length-le, length-drop}
-use lib.Seq.{drop-cons, getD-drop, getD-take, length-take-le, take-length}
-use lib.Pow.{pow-add, pow-pos, pow-mono, mod-pow-add, shl-shr, high, low}
+use lib.Seq.{drop-cons, getD-drop, length-take-le, take-length}
+use lib.Pow.{pow-add, pow-pos, pow-mono}
 use lib.Bits.{bitOr}
 use Rattle.hbc_io_leb.specs.Leb.{going, groups, lebBytes}
 use Rattle.hbc_io_leb.specs.Groups.{groupsOf}
-use Rattle.hbc_io.specs.Outcome.{Outcome, got, refused, valued, cursorAt, refusal, limit}
+use Rattle.hbc_io.specs.Outcome.{got, refused, valued, cursorAt, refusal, limit}
 use Rattle.hbc_io.specs.declared.Cursor.{Cursor}
 use Rattle.hbc_io.proofs.Reading.{past-test}
 use Rattle.hbc_bits.specs.Laws.{or-parts}

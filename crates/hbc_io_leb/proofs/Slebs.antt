@@ -1,13 +1,12 @@
 -- The sign of a LEB128 number: two's complement of its groups' bits, and what 64 bits keep of it.
-use mathlib.Core.Path.{_≡_, refl, sym, ap, _∙_}
+use mathlib.Core.Path.{_≡_, refl, ap, _∙_}
 use mathlib.Core.Bool.{Bool, true, false}
-use mathlib.Core.List.{List}
 use Prim.Native.Nat.{ℕ, zero, suc, _+_, _-_, _*_, _/_, _%_, _^_, _≤_, _<_}
 use native.Mathlib.Omega.{arith}
 use native.Mathlib.Nat.{mod-eq-of-lt, two-pow-succ, div-eq-of-lt, add-mul-div-left, zero-mul, zero-mod}
 use borrow.Author.Tests.{lt-ltb, le-ltb, le-leb, lt-leb, leb-true, leb-false}
 use lib.Dec.{leb}
-use lib.IntN.{ℤ, pos, negsuc}
+use lib.IntN.{negsuc}
 use lib.Pow.{pow-mono, pow-pos}
 use lib.Arith.{digits-mod}
 use lib.Bits.{bitOr, or-zero-r}

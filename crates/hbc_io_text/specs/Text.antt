@@ -10,7 +10,6 @@ use Rattle.hbc_io.specs.declared.Cursor.{Cursor}
 use Rattle.hbc_io.specs.declared.Span.{Span}
 use Rattle.hbc_io_leb.specs.Leb.{lebBytes}
 use Rattle.hbc_io_leb.specs.Answers.{ulebOf}
-use Rattle.hbc_io_leb.specs.declared.Uleb.{Uleb}
 
 -- how many bytes stand before the first zero
 abbrev pub before0 : List ℕ → ℕ

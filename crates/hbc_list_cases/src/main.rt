@@ -1,5 +1,5 @@
 // Runs many jobs through the listing: each is a name's length in one byte, a job's length in four, the name, and the job.
-ghost use Prim.Native.Nat.{_≤_, _<_};
+ghost use Prim.Native.Nat.{_<_};
 use hbc_io::Cursor;
 use hbc_io::ReadU8;
 use hbc_io::ReadU32;

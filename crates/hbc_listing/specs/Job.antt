@@ -1,13 +1,12 @@
 -- The listing program's job, after document 01: 1 layout (1 byte), 2 start, 3 count (4 bytes each), 4 file, once each in this order, ending there.
 use Prim.Native.Nat.{ℕ, _+_, _-_}
 use mathlib.Core.List.{List}
-use mathlib.Core.Bool.{Bool, false, cond, _&&_}
+use mathlib.Core.Bool.{Bool, false, cond}
 use lib.ListN.{length}
-use lib.Dec.{ltb, leb, eqb}
+use lib.Dec.{ltb, eqb}
 use Rattle.hbc_bits.specs.Bits.{leAt}
 use Rattle.hbc_io.specs.Outcome.{limit}
 use Rattle.hbc_header.specs.declared.Layout.the-variants.{Legacy16, Modern12}
-use Rattle.hbc_listing.specs.declared.Parts.{Parts}
 use Rattle.hbc_listing.specs.declared.Job.{Job}
 use Rattle.hbc_listing.specs.declared.Job.the-variants.{Of, Malformed}
 

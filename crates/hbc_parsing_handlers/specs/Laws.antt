@@ -13,7 +13,7 @@ use Rattle.hbc_io.specs.Outcome.{got, refused, cursorAt, refusal, limit}
 use Rattle.hbc_io.specs.Plain.{alignTo, alignedUp}
 use Rattle.hbc_io.specs.declared.Cursor.{Cursor}
 use Rattle.hbc_io.specs.declared.Refusal.{Refusal}
-use Rattle.hbc_io.proofs.Reading.{past-test, not-both}
+use Rattle.hbc_io.proofs.Reading.{not-both}
 use Rattle.hbc_rows.specs.Rows.{rows, putRows}
 use Rattle.hbc_rows.specs.Laws.{putRows-length}
 use Rattle.hbc_header.specs.Row.{width}
@@ -71,22 +71,7 @@ module _ (s : List ℕ) (info flags : ℕ) {f : ℕ} (e : f ≡ field 3 1 flags)
       unfolding whyAt
       at-table h u t = rw (← e, ne-eqb f 0 n, ne-eqb info 0 (λ z. omega arith), lt-leb (length s) info h, ← u) t
 
--- ---- the place rounded up to 4
-
-cursor-is : {A : Type 0} (v u : A) (c d : Cursor) → got v c ≡ got u d → c .at ≡ d .at
-cursor-is v u c d e = let z : c ≡ d = cc in ap (λ (k : Cursor). k .at) z
-
--- an align that moved: there, and in the file
-pub rounded : (a : ℕ) (s : List ℕ) (at : ℕ) (c : Cursor) → alignTo s (cursorAt at) a ≡ got tt c → (c .at ≡ alignedUp a at) × (c .at ≤ length s)
-unfolding alignTo
-rounded a s at c e =
-    let p = past-test (ltb limit (length s)) (refusal 1) (cursorAt at) _ tt c e in
-    let q = past-test (eqb a 0) (refusal 6) (cursorAt at) _ tt c (p .1) in
-    let r = past-test (ltb (length s) at) (refusal 2) (cursorAt at) _ tt c (q .1) in
-    let u = past-test (ltb (length s) (alignedUp a at)) (refusal 2) (cursorAt at) _ tt c (r .1) in
-    let z : alignedUp a at ≡ c .at = cursor-is tt tt (cursorAt _) c (u .1) in
-    let y : alignedUp a at ≤ length s = ltb-false (length s) (alignedUp a at) (u .0) in
-    (sym z, rw z at y)
+-- ---- the place rounded up to 4 that is past the end
 
 past-end : (a : ℕ) (s : List ℕ) (at : ℕ) (r : Refusal) (c : Cursor) (b : Bool) → ltb (length s) (alignedUp a at) ≡ b → 0 < a → length s ≤ limit → at ≤ length s
     → alignTo s (cursorAt at) a ≡ refused r c → length s < alignedUp a at
@@ -98,7 +83,7 @@ past-end a s at r c false f p h k e =
     in
     absurd (not-both z e)
 
--- one that was refused: past the end
+-- an align that was refused: past the end
 pub rounds-past : (a : ℕ) (s : List ℕ) (at : ℕ) (r : Refusal) (c : Cursor) → 0 < a → length s ≤ limit → at ≤ length s → alignTo s (cursorAt at) a ≡ refused r c
     → length s < alignedUp a at
 rounds-past a s at r c p h k e = past-end a s at r c (ltb (length s) (alignedUp a at)) refl p h k e

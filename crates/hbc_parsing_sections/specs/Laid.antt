@@ -9,14 +9,15 @@ use lib.Dec.{ltb}
 use Rattle.hbc_io.specs.Outcome.{got, cursorAt, refusal, left, limit}
 use Rattle.hbc_io.specs.Plain.{bytesAt, alignTo, seekTo}
 use Rattle.hbc_io.specs.declared.Cursor.{Cursor}
-use Rattle.hbc_io.proofs.Reading.{past-test, then-got, valued-got}
+use Rattle.hbc_io.proofs.Reading.{past-test, same-got, then-got, valued-got}
 use Rattle.hbc_io.proofs.Plains.{bytes-got}
+use Rattle.hbc_io.proofs.Aligns.{aligned}
 use Rattle.hbc_parsing_sections.specs.declared.Section.{Section}
 use Rattle.hbc_parsing_sections.specs.declared.Sources.{Sources}
 use Rattle.hbc_parsing_sections.specs.declared.Sources.the-variants as src
 use Rattle.hbc_parsing_sections.specs.declared.Sections.{Sections}
 use Rattle.hbc_parsing_sections.specs.Sections.{section, sectionAt, pairsAt, sourcesAt, sectionsFrom, sectionsAt}
-use Rattle.hbc_parsing_sections.specs.Laws.{same-got, section-on, aligned-in}
+use Rattle.hbc_parsing_sections.specs.Laws.{section-on}
 
 -- a table's entries are in the file
 abbrev pub There : List ℕ → Section → Type 0
@@ -69,7 +70,7 @@ section-lies s bytes entries c p next e =
     let t = bytes-got bytes s c (a .0) (a .1) (a .2) .1 in
     lies-at s bytes entries c p next (b .1) (t .short) (t .room)
     (section-on bytes 4 s c (a .1) (b .1) (a .0) (a .2) (b .2))
-    (aligned-in 4 s (a .1) (b .1) (b .2))
+    (aligned 4 s (a .1) (b .1) (b .2) .1)
     (b .3)
 
 pairs-lie : (s : List ℕ) (count : ℕ) (c : Cursor) (p : Section) (next : Cursor) → pairsAt count s c ≡ got p next → Lies s (8 * count) count c p next

@@ -4,16 +4,14 @@ use mathlib.Core.Path.{_≡_, ap}
 use mathlib.Core.List.{List}
 use mathlib.Core.Bool.{Bool, true, false, cond}
 use native.Mathlib.Omega.{arith}
-use borrow.Author.Tests.{ltb-false}
-use lib.ListN.{length}
-use lib.Dec.{ltb, eqb}
-use Rattle.hbc_io.specs.Outcome.{got, refused, cursorAt, refusal, limit}
-use Rattle.hbc_io.specs.Plain.{bytesAt, alignTo, alignedUp}
+use lib.Dec.{eqb}
+use Rattle.hbc_io.specs.Outcome.{got, refused}
+use Rattle.hbc_io.specs.Plain.{bytesAt, alignTo}
 use Rattle.hbc_io.specs.declared.Cursor.{Cursor}
 use Rattle.hbc_io.specs.declared.Refusal.{Refusal}
 use Rattle.hbc_io.specs.declared.Span.{Span}
-use Rattle.hbc_io.proofs.Reading.{past-test}
 use Rattle.hbc_io.proofs.Plains.{bytes-got}
+use Rattle.hbc_io.proofs.Aligns.{aligned}
 use Rattle.hbc_parsing_sections.specs.declared.Sources.{Sources}
 use Rattle.hbc_parsing_sections.specs.declared.Sources.the-variants as src
 use Rattle.hbc_parsing_sections.specs.Sections.{section, sectionAt, sourcesAt}
@@ -47,27 +45,9 @@ either-on : (b : Bool) (at more : ℕ) → at ≤ cond b at (at + more)
 either-on true at more = omega arith
 either-on false at more = omega arith
 
--- what was got, and where, is one thing
-pub same-got : {A : Type 0} (v u : A) (c d : Cursor) → got v c ≡ got u d → (v ≡ u) × (c ≡ d)
-same-got v u c d e = (cc, cc)
-
--- where an align went: to the place rounded up, in the file
-aligned : (a : ℕ) (s : List ℕ) (c end : Cursor) → alignTo s c a ≡ got tt end → (alignedUp a (c .at) ≡ end .at) × (alignedUp a (c .at) ≤ length s)
-unfolding alignTo
-aligned a s c end e =
-    let p = past-test (ltb limit (length s)) (refusal 1) c _ tt end e in
-    let q = past-test (eqb a 0) (refusal 6) c _ tt end (p .1) in
-    let r = past-test (ltb (length s) (c .at)) (refusal 2) c _ tt end (q .1) in
-    let u = past-test (ltb (length s) (alignedUp a (c .at))) (refusal 2) c _ tt end (r .1) in
-    let z : cursorAt (alignedUp a (c .at)) ≡ end = same-got tt tt (cursorAt _) end (u .1) .1 in
-    (ap (λ (k : Cursor). k .at) z, ltb-false (length s) (alignedUp a (c .at)) (u .0))
-
-pub aligned-in : (a : ℕ) (s : List ℕ) (c end : Cursor) → alignTo s c a ≡ got tt end → end .at ≤ length s
-aligned-in a s c end e = let p = aligned a s c end e in rw (p .0) at (p .1)
-
 -- an align never goes back
 aligned-on : (a : ℕ) (s : List ℕ) (c end : Cursor) → alignTo s c a ≡ got tt end → c .at ≤ end .at
-aligned-on a s c end e = rw (aligned a s c end e .0) at (either-on (eqb (c .at % a) 0) (c .at) (a - c .at % a))
+aligned-on a s c end e = rw (aligned a s c end e .0) (either-on (eqb (c .at % a) 0) (c .at) (a - c .at % a))
 
 -- and so the bytes with their padding end at their start or later
 pub section-on : (n a : ℕ) (s : List ℕ) (c next end : Cursor) (p : Span) → bytesAt n s c ≡ got p next → alignTo s next a ≡ got tt end → c .at ≤ end .at

@@ -1,6 +1,8 @@
-// What the layers share of lent tables of words: a word that may not be there, a field of a word, a row of four words put at a place.
+// What the layers share of lent tables of words: a word that may not be there, a field of a word, a row of four words
+// put at its place, words put from a place on.
 // All of it is total, so that a caller has nothing to prove and nothing to match.
 ghost use mathlib.Core.Path.{_≡_};
+ghost use lib.Seq.{sets};
 ghost use Rattle.hbc_bits.specs.Bits.{field};
 ghost use Rattle.hbc_rows.specs.Rows.{entryAt, putRow};
 
@@ -36,5 +38,22 @@ pub fn put_row(t: &mut [u32], k: usize, row: Row)
         t[at + 1] = row.b;
         t[at + 2] = row.c;
         t[at + 3] = row.d;
+    }
+}
+
+// Stores a row's words from `at` on, those that there is room for.
+pub fn put_words(t: &mut [u32], at: usize, row: &[u32])
+    ensures { λ _. ⌜ now (t .exit) ≡ sets (now (t .entry)) at (now (row .entry)) ⌝ }
+{
+    if t.len() < at {
+        return;
+    }
+    let mut i: usize = 0;
+    while i < row.len() {
+        if t.len() - at <= i {
+            return;
+        }
+        t[at + i] = row[i];
+        i += 1;
     }
 }

@@ -1,6 +1,5 @@
 use native.Mathlib.Omega.{arith}
 use mathlib.Core.Path.{_∙_, sym}
-use Prim.Native.Nat.{_-_}
 use Rattle.hbc_debug_items.proofs.Bits.{is-up, is-down, up-casts, up-is, down-fits, turned}
 use Rattle.hbc_debug_items.proofs.bits_of.Statement.{statement}
 use Rattle.hbc_debug_items.proofs.bits_of.Tie as tie

@@ -42,11 +42,11 @@ enum-known-name c = search needs
 word-below-requires : tie.Need-word-below-requires Inv-loop μ-loop
 word-below-requires c κs = search needs
 
-slice-aggregate-put-row : tie.Need-slice-aggregate-put-row Inv-loop μ-loop
-slice-aggregate-put-row c = search needs
+slice-aggregate-put-words : tie.Need-slice-aggregate-put-words Inv-loop μ-loop
+slice-aggregate-put-words c = search needs
 
-put-row-requires : tie.Need-put-row-requires Inv-loop μ-loop
-put-row-requires c κs = search needs
+put-words-requires : tie.Need-put-words-requires Inv-loop μ-loop
+put-words-requires c κs = search needs
 
 add-n : tie.Need-add-n Inv-loop μ-loop
 add-n c = omega (arith, c .before .before .before .before .before .before .before .before .before .before .before .loop .inv .0 .most)
@@ -65,7 +65,7 @@ loop-again c =
     let e = found ofHeld (c .before .before .before .before .before .before .before .before .before .read-bits .ensures) (c .before .before .before .before .before .before .before .name .given .1) in
     let g = bits-got _ _ _ _ e in
     let w = cell-is (c .before .before .before .before .before .before .before .before .before .before .before .before .before .before .args .strings) g (c .before .before .before .before .before .word-below .ensures) (omega (arith, c .before .before .before .before .before .before .before .before .before .before .before .before .before .before .fits .strings)) in
-    (ends-on (c .before .before .before .before .before .before .before .before .before .before .loop-test .taken) (g .is) (c .before .before .before .before .before .before .before .before .before .before .before .loop .inv .0), written-on 1 (c .before .before .before .before .before .before .before .before .before .before .loop-test .taken) (g .is) refl (c .before .before .put-row .ensures ∙ ap (sets (c .before .before .before .before .before .before .before .before .before .before .before .loop .names) (c .before .before .before .before .before .before .before .before .before .before .before .loop .to)) w) (c .before .before .before .before .before .before .before .before .before .before .before .loop .inv .1), omega (arith, c .before .before .before .before .before .before .before .before .before .before .before .loop .inv .2))
+    (ends-on (c .before .before .before .before .before .before .before .before .before .before .loop-test .taken) (g .is) (c .before .before .before .before .before .before .before .before .before .before .before .loop .inv .0), written-on 1 (c .before .before .before .before .before .before .before .before .before .before .loop-test .taken) (g .is) refl (c .before .before .put-words .ensures ∙ ap (sets (c .before .before .before .before .before .before .before .before .before .before .before .loop .names) (c .before .before .before .before .before .before .before .before .before .before .before .loop .to)) w) (c .before .before .before .before .before .before .before .before .before .before .before .loop .inv .1), omega (arith, c .before .before .before .before .before .before .before .before .before .before .before .loop .inv .2))
 
 same-length-2 : tie.Need-same-length-2 Inv-loop μ-loop
 same-length-2 c = c .before .loop .inv .1 .size
@@ -86,8 +86,8 @@ write-names-spec =
     returns
     enum-known-name
     word-below-requires
-    slice-aggregate-put-row
-    put-row-requires
+    slice-aggregate-put-words
+    put-words-requires
     add-n
     add-to
     sub-left

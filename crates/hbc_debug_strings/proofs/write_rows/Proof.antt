@@ -50,11 +50,11 @@ cast-t14 c = let f = ap (λ (x : InFile). x .0) (c .before .part-to-file .ensure
 cast-t15 : tie.Need-cast-t15 Inv-loop μ-loop
 cast-t15 c = omega (arith, inside _ _ _ _ (found ofSpan (c .before .before .before .before .before .before .read-length-prefixed-string .ensures) (c .before .before .before .before .p .given .1)))
 
-slice-aggregate-put-row : tie.Need-slice-aggregate-put-row Inv-loop μ-loop
-slice-aggregate-put-row c = search needs
+slice-aggregate-put-words : tie.Need-slice-aggregate-put-words Inv-loop μ-loop
+slice-aggregate-put-words c = search needs
 
-put-row-requires : tie.Need-put-row-requires Inv-loop μ-loop
-put-row-requires c κs = search needs
+put-words-requires : tie.Need-put-words-requires Inv-loop μ-loop
+put-words-requires c κs = search needs
 
 add-at : tie.Need-add-at Inv-loop μ-loop
 add-at c = search needs
@@ -68,7 +68,7 @@ loop-less c = search needs
 loop-again : tie.Need-loop-again Inv-loop μ-loop
 loop-again c =
     let f = ap (λ (x : InFile). x .0) (c .before .before .before .before .before .before .before .part-to-file .ensures) in
-    (written-on 2 (c .before .before .before .before .before .before .before .before .before .before .before .before .loop-test .taken) (found ofSpan (c .before .before .before .before .before .before .before .before .before .before .before .read-length-prefixed-string .ensures) (c .before .before .before .before .before .before .before .before .before .p .given .1)) refl (c .before .before .put-row .ensures ∙ ap (λ (x : InFile). sets (c .before .before .before .before .before .before .before .before .before .before .before .before .before .loop .rows) (c .before .before .before .before .before .before .before .before .before .before .before .before .before .loop .at) (x .0 ∷ c .before .before .before .before .before .before .before .before .before .p .given .0 .0 .len ∷ [])) (c .before .before .before .before .before .before .before .part-to-file .ensures)) (c .before .before .before .before .before .before .before .before .before .before .before .before .before .loop .inv .0), omega arith)
+    (written-on 2 (c .before .before .before .before .before .before .before .before .before .before .before .before .loop-test .taken) (found ofSpan (c .before .before .before .before .before .before .before .before .before .before .before .read-length-prefixed-string .ensures) (c .before .before .before .before .before .before .before .before .before .p .given .1)) refl (c .before .before .put-words .ensures ∙ ap (λ (x : InFile). sets (c .before .before .before .before .before .before .before .before .before .before .before .before .before .loop .rows) (c .before .before .before .before .before .before .before .before .before .before .before .before .before .loop .at) (x .0 ∷ c .before .before .before .before .before .before .before .before .before .p .given .0 .0 .len ∷ [])) (c .before .before .before .before .before .before .before .part-to-file .ensures)) (c .before .before .before .before .before .before .before .before .before .before .before .before .before .loop .inv .0), omega arith)
 
 same-length-2 : tie.Need-same-length-2 Inv-loop μ-loop
 same-length-2 c = c .before .loop .inv .0 .size
@@ -91,8 +91,8 @@ write-rows-spec =
     part-to-file-requires
     cast-t14
     cast-t15
-    slice-aggregate-put-row
-    put-row-requires
+    slice-aggregate-put-words
+    put-words-requires
     add-at
     sub-left
     loop-less

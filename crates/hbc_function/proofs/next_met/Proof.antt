@@ -7,9 +7,6 @@ use Rattle.hbc_function.specs.Next.{Skipped}
 use Rattle.hbc_function.specs.Passes.{skip-none, skip-more, next-met, next-none}
 use Rattle.hbc_function.proofs.next_met.Statement.{statement}
 use Rattle.hbc_function.proofs.next_met.Tie as tie
-use Rattle.hbc_function.proofs.next_met.Reads as reads
-use Rattle.hbc_function.proofs.next_met.Lts as lts
-use Rattle.hbc_function.proofs.meets_at.Reads as meets-at-reads
 
 abbrev Inv-loop : tie.InvT-loop
 Inv-loop s layout start low high from count id₀ id = Skipped (meets s layout start low high) from count id

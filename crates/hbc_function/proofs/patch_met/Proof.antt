@@ -1,6 +1,5 @@
 use mathlib.Core.Path.{_∙_}
 use borrow.Author.Needs.{needs}
-use Prim.Native.Nat.{_-_}
 use native.Mathlib.Omega.{arith}
 use Rattle.hbc_header.specs.Header.{functionAt}
 use Rattle.hbc_header_ground.specs.Meets.{meets}

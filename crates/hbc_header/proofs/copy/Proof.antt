@@ -1,7 +1,6 @@
 use Rattle.hbc_header.specs.Copy.{front-length, front-all, front-none}
 use borrow.Author.Needs.{needs}
 use Prim.Native.Nat.{_≤_, _-_}
-use mathlib.Core.Path.{_≡_, refl, sym, _∙_, ap}
 use native.Mathlib.Omega.{arith}
 use lib.ListN.{length}
 use Rattle.hbc_header.specs.Copy.{Fronted, front-more}

@@ -1,10 +1,9 @@
 use Prim.Native.Nat.{ℕ, _+_, _-_, _*_, _^_, _≤_, _<_}
 use native.Mathlib.Nat.{sub-self, sub-zero, add-zero}
 use denote.Ref.{now}
-use mathlib.Core.Path.{_≡_, ap}
+use mathlib.Core.Path.{_≡_}
 use native.Mathlib.Omega.{arith}
 use borrow.Author.Needs.{needs}
-use lib.ListN.{length}
 use Rattle.hbc_bits.specs.Bits.{leAt}
 use Rattle.hbc_bits.specs.Laws.{Bytes}
 use Rattle.hbc_io.proofs.Plains.{le-turn, le-room}

@@ -1,11 +1,11 @@
-use Prim.Native.Nat.{ℕ, suc, _+_, _-_, _*_, _%_, _^_, _≤_, _<_}
+use Prim.Native.Nat.{suc, _+_, _-_, _%_, _^_, _≤_, _<_}
 use mathlib.Core.Path.{_≡_, refl, sym}
 use native.Mathlib.Omega.{arith}
 use native.Mathlib.Numerals.{add-one}
 use native.Mathlib.Nat.{add-zero, zero-add}
 use borrow.Author.Tests.{lt-ltb, le-ltb}
 use denote.Ref.{now}
-use lib.ListN.{length, getD, take, drop}
+use lib.ListN.{length, take, drop}
 use Rattle.hbc_io_leb.specs.Leb.{going, groups, lebBytes}
 use Rattle.hbc_io_leb.proofs.Lebs.{part-long, going-off, going-end, turn-going, turn-groups, leb-long, leb-cut, leb-whole, leb-one}
 use borrow.Author.Needs.{needs}

@@ -16,10 +16,6 @@ flipped : (z : ℤ) → SFits w32 z → ltZ z (pos 0) ≡ true → toZ w32 (4294
 flipped (pos n) f h = absurd (omega (arith, ltb-true n 0 h))
 flipped (negsuc k) f h = toZ-pos w32 (4294967295 - (2 ^ 32 - suc k)) (omega arith)
 
-word-is : (z : ℤ) → ofZ w32 z ≡ word32 z
-word-is (pos n) = refl
-word-is (negsuc k) = refl
-
 plain : (z : ℤ) → ltZ z (pos 0) ≡ false → z ≡ pos (word32 z)
 plain (pos n) h = refl
 plain (negsuc k) h = cc

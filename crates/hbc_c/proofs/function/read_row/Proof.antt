@@ -33,32 +33,26 @@ code-requires-3 c κs = search needs
 returns-3 : tie.Need-returns-3
 returns-3 c = row-small _ _ _ _ _ (omega arith) (omega arith) (omega arith) (c .code3 .ensures ∙ ap codeOf (c .before .refuse3 .ensures))
 
-read-function-requires : tie.Need-read-function-requires
-read-function-requires c κs = search needs
+check-function-requires : tie.Need-check-function-requires
+check-function-requires c κs = search needs
+
+enum-told : tie.Need-enum-told
+enum-told c = search needs
+
+sub-function-row : tie.Need-sub-function-row
+sub-function-row c = search needs
+
+part-function-row-start : tie.Need-part-function-row-start
+part-function-row-start c = search needs
+
+part-function-row-end : tie.Need-part-function-row-end
+part-function-row-end c = search needs
+
+function-row-requires : tie.Need-function-row-requires
+function-row-requires c κs = search needs
 
 enum-known-r : tie.Need-enum-known-r
 enum-known-r c = search needs
-
-row-words-requires : tie.Need-row-words-requires
-row-words-requires c κs = search needs
-
-slice-aggregate-copy : tie.Need-slice-aggregate-copy
-slice-aggregate-copy c = search needs
-
-sub-copy : tie.Need-sub-copy
-sub-copy c = search needs
-
-part-copy-start : tie.Need-part-copy-start
-part-copy-start c = search needs
-
-part-copy-end : tie.Need-part-copy-end
-part-copy-end c = search needs
-
-copy-requires : tie.Need-copy-requires
-copy-requires c κs = search needs
-
-enum-known-r-2 : tie.Need-enum-known-r-2
-enum-known-r-2 c = search needs
 
 code-requires-4 : tie.Need-code-requires-4
 code-requires-4 c κs = search needs
@@ -67,10 +61,10 @@ same-length : tie.Need-same-length
 same-length c = search needs
 
 returns-4 : tie.Need-returns-4
-returns-4 c = row-read _ _ _ _ _ (omega arith) (omega arith) (omega arith) (c .before .before .before .before .before .before .before .before .before .read-function .ensures) (c .before .before .before .before .before .before .before .r .given .1) (c .before .before .copy .ensures ∙ c .before .before .before .before .before .row-words .ensures)
+returns-4 c = row-read _ _ _ _ _ (omega arith) (omega arith) (omega arith) (c .before .before .before .before .before .before .check-function .ensures) (c .before .before .before .before .enum-told .given .1) (c .before .before .function-row .ensures)
 
 returns-5 : tie.Need-returns-5
-returns-5 c = row-stopped _ _ _ _ _ (omega arith) (omega arith) (omega arith) (c .before .before .before .before .read-function .ensures) (c .before .before .r2 .given .1) (c .code4 .ensures)
+returns-5 c = row-stopped _ _ _ _ _ (omega arith) (omega arith) (omega arith) (c .before .before .before .before .check-function .ensures) (c .before .before .r .given .1) (c .code4 .ensures)
 
 pub read-row-spec : {M : Type 1} → statement M
 read-row-spec =
@@ -85,15 +79,13 @@ read-row-spec =
     refuse-requires-3
     code-requires-3
     returns-3
-    read-function-requires
+    check-function-requires
+    enum-told
+    sub-function-row
+    part-function-row-start
+    part-function-row-end
+    function-row-requires
     enum-known-r
-    row-words-requires
-    slice-aggregate-copy
-    sub-copy
-    part-copy-start
-    part-copy-end
-    copy-requires
-    enum-known-r-2
     code-requires-4
     same-length
     returns-4

@@ -1,5 +1,4 @@
 use mathlib.Core.Path.{ap, sym, _∙_}
-use Prim.Native.Nat.{ℕ}
 use Rattle.hbc_c.specs.Function.{codeIn, one}
 use Rattle.hbc_header.specs.Answer.{ofReading}
 use borrow.Author.Needs.{needs}

@@ -1,6 +1,6 @@
 use mathlib.Core.Path.{ap, sym, _∙_}
 use Prim.Native.Nat.{ℕ}
-use Rattle.hbc_c.specs.Function.{codeIn, one}
+use Rattle.hbc_c.specs.Function.{codeIn}
 use Rattle.hbc_function.specs.Refresh.{ofRefreshed}
 use borrow.Author.Needs.{needs}
 use Rattle.hbc_c.proofs.function.refresh_table.Statement.{statement}

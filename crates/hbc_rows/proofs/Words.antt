@@ -1,7 +1,7 @@
--- Laws of a row stored word by word.
+-- Laws of words stored one after the other.
 use mathlib.Core.Path.{_≡_, refl, sym, ap, _∙_}
 use mathlib.Core.List.{List, [], _∷_, _++_}
-use Prim.Native.Nat.{ℕ, suc, _+_, _-_, _≤_, _<_}
+use Prim.Native.Nat.{ℕ, suc, _+_, _≤_, _<_}
 use native.Mathlib.Omega.{arith}
 use native.Mathlib.Nat.{add-suc, add-zero}
 use native.Mathlib.Numerals.{add-one}
@@ -13,7 +13,7 @@ pub sets-out : (ws t : List ℕ) (at : ℕ) → length t ≤ at → sets t at ws
 sets-out [] t at h = refl
 sets-out (w ∷ ws) t at h = rw (set-out t at w h) (sets-out ws t (suc at) (omega arith))
 
--- rows one after the other
+-- words and then more of them
 pub sets-append : (xs ys t : List ℕ) (at : ℕ) → sets t at (xs ++ ys) ≡ sets (sets t at xs) (at + length xs) ys
 sets-append [] ys t at = rw (add-zero at)
 sets-append (x ∷ xs) ys t at =

@@ -4,9 +4,9 @@ use Prim.Native.Nat.{_-_, _≤_}
 use mathlib.Core.Path.{sym}
 use lib.ListN.{length}
 use denote.Ref.{now}
-use Rattle.hbc_debug_items.proofs.RowLaws.{Going, going-first, going-on, going-full, going-done, sets-out}
-use Rattle.hbc_debug_items.proofs.rows.put_row.Statement.{statement}
-use Rattle.hbc_debug_items.proofs.rows.put_row.Tie as tie
+use Rattle.hbc_rows.proofs.Words.{Going, going-first, going-on, going-full, going-done, sets-out}
+use Rattle.hbc_rows.proofs.put_words.Statement.{statement}
+use Rattle.hbc_rows.proofs.put_words.Tie as tie
 
 abbrev Inv-loop : tie.InvT-loop
 Inv-loop t₀ at row i₀ t i = Going t₀ at row i t × (i ≤ length row)
@@ -59,8 +59,8 @@ same-length-2 c = search needs
 returns-3 : tie.Need-returns-3 Inv-loop μ-loop
 returns-3 c = going-done (c .loop-test .left) (c .before .loop .inv .0)
 
-pub put-row-spec : {M : Type 1} → statement M
-put-row-spec =
+pub put-words-spec : {M : Type 1} → statement M
+put-words-spec =
     tie.close
     (tie.spec
     Inv-loop
