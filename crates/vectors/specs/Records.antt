@@ -124,7 +124,8 @@ wordAt s at listed = cond listed (lessOne (numberAt s at)) (numbered 2779096485 
 unfoldable pub longAt : List ℕ → ℕ → Bool → Number
 longAt s at listed = cond listed (numberAt s at) (numbered 11936128518282651045 at)
 
--- whether the first i words of a table are the recorded ones, of which n are listed from a place on, and where the field after them stands
+-- as j says, and the first i words of a table are the recorded ones, which f reads from where j stands on: the first n are listed, and for those
+-- after them nothing is; and where the field after them stands
 unfoldable pub heldTo : (ℕ → Bool → Number) → ℕ → List ℕ → Judged → ℕ → Judged
 heldTo f n t j zero = j
 heldTo f n t j (suc i) = judgedOn (heldTo f n t j i .same) (f (heldTo f n t j i .next) (ltb i n)) (getD t i 0)

@@ -153,7 +153,7 @@ pub fn past(s: &[u8], at: usize) -> usize
     }
 }
 
-// The record at a place; of no group where there is none, or not a whole one.
+// The record at a place; of no group at the end. One that is cut has no fields, and the next stands at the end.
 pub fn record_at(s: &[u8], at: usize) -> Record
     ensures { λ r. ⌜ r ≡ recordAt (now (s .entry)) at ⌝ }
 {
@@ -255,7 +255,7 @@ fn judged_on(same: bool, w: Number, v: u64) -> Judged
     }
 }
 
-// Whether every word lent, and those behind it, are as recorded.
+// Whether every word lent, and those behind them, are as recorded.
 pub fn holds(s: &[u8], at: usize, table: &[u32]) -> Judged
     ensures { λ r. ⌜ r ≡ heldAt (now (s .entry)) at (now (table .entry)) ⌝ }
 {
