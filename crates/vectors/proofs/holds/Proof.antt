@@ -1,20 +1,24 @@
 use Prim.Native.Nat.{_-_, _≤_}
 use lib.ListN.{length}
+use native.Mathlib.Omega.{arith}
+use mathlib.Core.Path.{refl}
+use Rattle.vectors.specs.Records.{wordAt}
+use Rattle.vectors.proofs.Recorded.{Held, held-first, held-on, held-done}
 use borrow.Author.Needs.{needs}
 use Rattle.vectors.proofs.holds.Statement.{statement}
 use Rattle.vectors.proofs.holds.Tie as tie
 
 abbrev Inv-loop : tie.InvT-loop
-Inv-loop s at table n same₀ next₀ i₀ same next i = i ≤ length table
+Inv-loop s at table n j₀ i₀ j i = (i ≤ length table) × Held (wordAt s) (n .value) table j₀ i j
 
 abbrev μ-loop : tie.MeasureT-loop
-μ-loop s at table n same₀ next₀ i₀ same next i = length table - i
+μ-loop s at table n j₀ i₀ j i = length table - i
 
 number-at-requires : tie.Need-number-at-requires Inv-loop μ-loop
 number-at-requires c κs = search needs
 
 loop-holds : tie.Need-loop-holds Inv-loop μ-loop
-loop-holds c = search needs
+loop-holds c = (omega arith, held-first _ _ _ _)
 
 word-requires : tie.Need-word-requires Inv-loop μ-loop
 word-requires c κs = search needs
@@ -28,6 +32,9 @@ shared-slice-read-wide c = search needs
 wide-requires : tie.Need-wide-requires Inv-loop μ-loop
 wide-requires c κs = search needs
 
+judged-on-requires : tie.Need-judged-on-requires Inv-loop μ-loop
+judged-on-requires c κs = search needs
+
 add-i : tie.Need-add-i Inv-loop μ-loop
 add-i c = search needs
 
@@ -35,10 +42,10 @@ loop-less : tie.Need-loop-less Inv-loop μ-loop
 loop-less c = search needs
 
 loop-again : tie.Need-loop-again Inv-loop μ-loop
-loop-again c = search needs
+loop-again c = (omega arith, held-on _ _ _ (c .before .before .before .before .before .before .loop .inv .1) (c .before .before .before .word .ensures) (c .before .wide .ensures) (c .judged-on .ensures))
 
 returns : tie.Need-returns Inv-loop μ-loop
-returns c = search needs
+returns c = held-done _ _ _ (c .before .before .before .number-at .ensures) (omega arith) (c .before .loop .inv .1)
 
 pub holds-spec : {M : Type 1} → statement M
 holds-spec =
@@ -52,6 +59,7 @@ holds-spec =
     mul-wide
     shared-slice-read-wide
     wide-requires
+    judged-on-requires
     add-i
     loop-less
     loop-again

@@ -1,12 +1,13 @@
-use mathlib.Core.Path.{_≡_}
 use Prim.Native.Nat.{_-_, _≤_}
 use lib.ListN.{length}
+use native.Mathlib.Omega.{arith}
+use Rattle.vectors.proofs.Recorded.{Worded, worded-first, worded-on, worded-length, worded-done}
 use borrow.Author.Needs.{needs}
 use Rattle.vectors.proofs.words_at.Statement.{statement}
 use Rattle.vectors.proofs.words_at.Tie as tie
 
 abbrev Inv-loop : tie.InvT-loop
-Inv-loop s at table₀ count next₀ i₀ table next i = (i ≤ count) × (length table ≡ length table₀)
+Inv-loop s at table₀ count next₀ i₀ table next i = (i ≤ count) × Worded s next₀ i table₀ table next
 
 abbrev μ-loop : tie.MeasureT-loop
 μ-loop s at table₀ count next₀ i₀ table next i = count - i
@@ -18,13 +19,19 @@ lesser-requires : tie.Need-lesser-requires Inv-loop μ-loop
 lesser-requires c κs = search needs
 
 loop-holds : tie.Need-loop-holds Inv-loop μ-loop
-loop-holds c = search needs
+loop-holds c = (omega arith, worded-first _ _ _)
 
 number-at-requires-2 : tie.Need-number-at-requires-2 Inv-loop μ-loop
 number-at-requires-2 c κs = search needs
 
-put-requires : tie.Need-put-requires Inv-loop μ-loop
-put-requires c κs = search needs
+low-requires : tie.Need-low-requires Inv-loop μ-loop
+low-requires c κs = search needs
+
+mul-table : tie.Need-mul-table Inv-loop μ-loop
+mul-table c = search needs
+
+slice-write-table : tie.Need-slice-write-table Inv-loop μ-loop
+slice-write-table c = rw (worded-length (c .before .before .before .loop .inv .1)) (omega (arith, c .before .before .loop-test .taken, c .before .before .before .before .lesser .ensures))
 
 add-i : tie.Need-add-i Inv-loop μ-loop
 add-i c = search needs
@@ -33,13 +40,13 @@ loop-less : tie.Need-loop-less Inv-loop μ-loop
 loop-less c = search needs
 
 loop-again : tie.Need-loop-again Inv-loop μ-loop
-loop-again c = search needs
+loop-again c = (omega arith, worded-on (c .before .before .before .loop .inv .1) (c .before .number-at2 .ensures) (c .low .ensures))
 
 same-length : tie.Need-same-length Inv-loop μ-loop
-same-length c = search needs
+same-length c = worded-length (c .before .loop .inv .1)
 
 returns : tie.Need-returns Inv-loop μ-loop
-returns c = search needs
+returns c = worded-done _ _ (c .before .before .before .number-at .ensures) (c .before .before .lesser .ensures) (omega arith) (c .before .loop .inv .1)
 
 pub words-at-spec : {M : Type 1} → statement M
 words-at-spec =
@@ -51,7 +58,9 @@ words-at-spec =
     lesser-requires
     loop-holds
     number-at-requires-2
-    put-requires
+    low-requires
+    mul-table
+    slice-write-table
     add-i
     loop-less
     loop-again
