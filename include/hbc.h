@@ -257,7 +257,8 @@ uint64_t hbc_trailing_sections(const uint8_t *file, size_t file_len, size_t star
  * At `offset` 0, 2^32 - 1, or at or past the end there is no debug information: accepted, with no rows.
  * Accepted, the answer is 0, and the four counts are those of the rows; words past them stay. Refused, the counts stay
  * too.
- * Refused 1; 3 if the header of 28 bytes is cut; 4 if one of the tables has too few rows, looked at last. */
+ * Refused 1; 3 if the header of 28 bytes is cut; 4 if one of the tables has too few rows, looked at last.
+ * Callees whose addresses do not rise take 768 KiB of stack, however many there are. */
 uint64_t hbc_read_debug(const uint8_t *file, size_t file_len, uint32_t offset, uint32_t *strings, size_t strings_len,
                         uint32_t *scopes, size_t scopes_len, uint32_t *names, size_t names_len, uint32_t *callees,
                         size_t callees_len, size_t *string_count, size_t *scope_count, size_t *name_count,

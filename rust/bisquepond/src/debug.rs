@@ -1,4 +1,5 @@
-//! The debug section: strings, scopes with their names, and callees.
+//! The debug section: strings, scopes with their names, and callees. Callees whose addresses do not rise take 768 KiB of
+//! stack, however many there are.
 //!
 //! ```
 //! // One byte, then the section: seven words, and the data in three parts.
