@@ -1,16 +1,15 @@
 -- Laws that loops over lent tables cite: one more, done, and lengths.
-use Prim.Native.Nat.{ℕ, zero, suc, _+_, _*_, _/_, _^_, _≤_, _<_}
+use Prim.Native.Nat.{ℕ, zero, suc, _+_, _/_, _^_, _≤_, _<_}
 use mathlib.Core.Path.{_≡_, refl, sym, _∙_}
 use mathlib.Core.List.{List}
-use mathlib.Core.Bool.{Bool, true, false, cond}
-use native.Mathlib.Nat.{zero-add, div-le-self, mod-le, le-trans, lt-of-le-of-lt}
+use mathlib.Core.Bool.{true, false}
+use native.Mathlib.Nat.{div-le-self, mod-le, le-trans, lt-of-le-of-lt}
 use native.Mathlib.Numerals.{add-one}
-use lib.Dec.{ltb, eqb}
+use lib.Dec.{eqb}
 use lib.ListN.{length, getD, set, length-set, List·getD-eq-default}
 use borrow.Author.Tests.{eq-eqb, ne-eqb}
 use Rattle.hbc_bits.specs.Bits.{field}
-use Rattle.hbc_rows.specs.Rows.{entryAt, filled, rows, putRow, putRows}
-use Rattle.hbc_rows.specs.declared.Row.{Row}
+use Rattle.hbc_rows.specs.Rows.{entryAt, filled}
 
 -- ---- words in front
 
@@ -26,33 +25,6 @@ module _ (f : ℕ → ℕ) (t : List ℕ) where
 
   pub filled-done : {u : List ℕ} {i n : ℕ} → i ≡ n → u ≡ filled f i t → u ≡ filled f n t
   filled-done e h = rw (← e) h
-
--- ---- rows
-
-put-length : (t : List ℕ) (k : ℕ) (r : Row) (b : Bool) → length (cond b (set (set (set (set t (k * 4) (r .a)) (k * 4 + 1) (r .b)) (k * 4 + 2) (r .c)) (k * 4 + 3) (r .d)) t) ≡ length t
-put-length t k r true = simp length-set
-put-length t k r false = refl
-
-pub putRow-length : (t : List ℕ) (k : ℕ) (r : Row) → length (putRow t k r) ≡ length t
-unfolding putRow
-putRow-length t k r = put-length t k r (ltb k (rows t))
-
-module _ (f : ℕ → Row) (base : ℕ) (t : List ℕ) where
-  pub putRows-more : (n : ℕ) → putRow (putRows f base n t) (base + n) (f n) ≡ putRows f base (n + 1) t
-  unfolding putRows
-  putRows-more n = rw add-one
-
-  pub putRows-length : (n : ℕ) → length (putRows f base n t) ≡ length t
-  unfolding putRows
-  putRows-length zero = refl
-  putRows-length (suc n) = putRow-length (putRows f base n t) (base + n) (f n) ∙ putRows-length n
-
-  pub putRows-done : {u : List ℕ} {i n : ℕ} → i ≡ n → u ≡ putRows f base i t → u ≡ putRows f base n t
-  putRows-done e h = rw (← e) h
-
--- rows put from the first on
-pub putRows-first : (f : ℕ → Row) (t : List ℕ) (n : ℕ) → putRow (putRows f 0 n t) n (f n) ≡ putRows f 0 (n + 1) t
-putRows-first f t n = rw (zero-add) at (putRows-more f 0 t n)
 
 -- ---- one word
 
