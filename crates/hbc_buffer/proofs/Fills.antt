@@ -9,7 +9,7 @@ use native.Mathlib.Numerals.{add-one}
 use lib.Pow.{pow-add}
 use lib.ListN.{length, set, length-set}
 use Rattle.hbc_bits.specs.Bits.{leAt, field}
-use Rattle.hbc_bits.specs.Laws.{Bytes, le-lt, le-add, field-low}
+use Rattle.hbc_bits.proofs.Laws.{Bytes, le-lt, le-add, field-low}
 use Rattle.hbc_buffer.specs.Series.{filled}
 use Rattle.hbc_buffer.specs.Fill.{filledFrom}
 

@@ -9,7 +9,7 @@ use borrow.Author.Tests.{eq-eqb, ne-eqb, eqb-true, eqb-false, le-ltb, lt-ltb}
 use lib.ListN.{length}
 use lib.Dec.{eqb}
 use Rattle.hbc_bits.specs.Bits.{field}
-use Rattle.hbc_bits.specs.Laws.{field-lt, field-past}
+use Rattle.hbc_bits.proofs.Laws.{field-lt, field-past}
 use Rattle.hbc_io.specs.Outcome.{got, refused, valued, cursorAt, refusal, limit}
 use Rattle.hbc_io.specs.Plain.{plainAt}
 use Rattle.hbc_io.specs.declared.Cursor.{Cursor}

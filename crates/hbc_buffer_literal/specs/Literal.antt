@@ -46,6 +46,6 @@ word32 (pos n) = n
 word32 (negsuc n) = 2 ^ 32 - suc n
 
 -- what each case of an answer says
-abbrev pub ofLiteral : ReadLiteral → Outcome Literal
-ofLiteral (read.Got v n) = got v n
-ofLiteral (read.Refused r n) = refused r n
+abbrev pub saysLiteral : ReadLiteral → Outcome Literal
+saysLiteral (read.Got v n) = got v n
+saysLiteral (read.Refused r n) = refused r n

@@ -10,18 +10,18 @@ use Rattle.hbc_io.specs.Outcome.{Outcome, got, refused, limit, refusal}
 use Rattle.hbc_io.specs.declared.Cursor.{Cursor}
 use Rattle.hbc_io.specs.declared.Refusal.{Refusal}
 use Rattle.hbc_rows.specs.Rows.{rows}
-use Rattle.hbc_header.specs.Answer.{gives, refuses}
+use Rattle.hbc_io.specs.Answer.{gives, refuses}
 use Rattle.hbc_parsing_handlers.specs.declared.Listed.{Listed}
 use Rattle.hbc_parsing_handlers.specs.declared.Listed.the-variants as l
-use Rattle.hbc_parsing_handlers.specs.Handlers.{ofListed, handlersAnswer, ReadHandlers}
+use Rattle.hbc_parsing_handlers.specs.Handlers.{saysListed, handlersAnswer, ReadHandlers}
 use Rattle.hbc_parsing_sections.specs.declared.Sections.{Sections}
 use Rattle.hbc_parsing_sections.specs.declared.Sources.{Sources}
 use Rattle.hbc_parsing_sections.specs.declared.Sources.the-variants as src
 use Rattle.hbc_parsing_sections.specs.declared.ReadSections.{ReadSections}
 use Rattle.hbc_parsing_sections.specs.declared.ReadSections.the-variants as all
-use Rattle.hbc_parsing_sections.specs.Answers.{ofSections, told}
+use Rattle.hbc_parsing_sections.specs.Answers.{saysSections, told}
 use Rattle.hbc_parsing_sections.specs.Sections.{sectionsAt}
-use Rattle.hbc_parsing_sections.specs.Laid.{Between, Laid, laid}
+use Rattle.hbc_parsing_sections.proofs.Laid.{Between, Laid, laid}
 use Rattle.hbc_c.specs.Code.{codeOf}
 use Rattle.hbc_c.specs.Parsing.{sectionsInto, sectionsAnswer, SourcesSmall, Small, ToldHandlers, ToldSections}
 
@@ -30,12 +30,12 @@ use Rattle.hbc_c.specs.Parsing.{sectionsInto, sectionsAnswer, SourcesSma
 module _ {s functions : List ℕ} {count : ℕ} {before after : List ℕ} {r : Listed} (v : ReadHandlers s functions count before r after) where
   pub listed : {n total₀ : ℕ} → r ≡ l.Rows n → ToldHandlers s functions count before total₀ 0 after n
   listed {n} e =
-      let a : handlersAnswer s functions count (rows before) ≡ gives n = sym (v .says) ∙ ap ofListed e in
+      let a : handlersAnswer s functions count (rows before) ≡ gives n = sym (v .says) ∙ ap saysListed e in
       record { says = rw a; leaves = v .leaves; counts = rw a }
 
   pub unlisted : {k : Refusal} {c total₀ : ℕ} → r ≡ l.Refused k → c ≡ codeOf k → ToldHandlers s functions count before total₀ c after total₀
   unlisted {k} e f =
-      let a : handlersAnswer s functions count (rows before) ≡ refuses k = sym (v .says) ∙ ap ofListed e in
+      let a : handlersAnswer s functions count (rows before) ≡ refuses k = sym (v .says) ∙ ap saysListed e in
       record { says = rw a f; leaves = v .leaves; counts = rw a }
 
 -- ---- sections
@@ -60,9 +60,9 @@ small s start v h =
       bytecode = (omega (arith, h .short, h .last), omega (arith, h .short, h .last));
     }
 
-module _ (start regexps storage cjs : ℕ) (given : Bool) (sources : ℕ) (s : List ℕ) {r : ReadSections} (e : ofSections r ≡ told (sectionsAt start regexps storage cjs given sources s)) where
-  found-told : {q : ReadSections} → r ≡ q → told (sectionsAt start regexps storage cjs given sources s) ≡ ofSections q
-  found-told f = sym e ∙ ap ofSections f
+module _ (start regexps storage cjs : ℕ) (given : Bool) (sources : ℕ) (s : List ℕ) {r : ReadSections} (e : saysSections r ≡ told (sectionsAt start regexps storage cjs given sources s)) where
+  found-told : {q : ReadSections} → r ≡ q → told (sectionsAt start regexps storage cjs given sources s) ≡ saysSections q
+  found-told f = sym e ∙ ap saysSections f
 
   pub found-small : {v : Sections} → r ≡ all.Got v → Small v
   found-small {v} f =

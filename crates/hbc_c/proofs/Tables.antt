@@ -8,11 +8,11 @@ use Rattle.hbc_io.specs.declared.Moved.{Moved}
 use Rattle.hbc_io.specs.declared.Moved.the-variants.{To, Refused}
 use Rattle.hbc_io.specs.declared.Span.{Span}
 use Rattle.hbc_table.specs.Table.{wordsAt, ReadWords}
-use Rattle.hbc_table.specs.Laws.{table-got, table-refused}
+use Rattle.hbc_table.proofs.Laws.{table-got, table-refused}
 use Rattle.hbc_table_strings.specs.declared.Decoded.{Decoded}
 use Rattle.hbc_table_strings.specs.Strings.{DecodeStrings}
 use Rattle.hbc_table_bytes.specs.StringBytes.{stringSpan}
-use Rattle.hbc_table_bytes.specs.Laws.{span-names}
+use Rattle.hbc_table_bytes.proofs.Laws.{span-names}
 use Rattle.hbc_c.specs.Code.{codeOf}
 use Rattle.hbc_c.specs.Io.{Told}
 use Rattle.hbc_c.specs.Table.{decodedCode, ToldStrings, ToldPart}

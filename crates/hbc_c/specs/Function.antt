@@ -7,7 +7,7 @@ use lib.ListN.{length}
 use lib.Dec.{eqb}
 use Rattle.hbc_header.specs.declared.Layout.{Layout}
 use Rattle.hbc_header.specs.declared.Layout.the-variants as lay
-use Rattle.hbc_header.specs.Answer.{Answer, gives, refuses, asked}
+use Rattle.hbc_io.specs.Answer.{Answer, gives, refuses, asked}
 use Rattle.hbc_header.specs.Header.{functionAt, opened}
 use Rattle.hbc_header_ground.specs.Meets.{meetsIn}
 use Rattle.hbc_function.specs.Table.{putRow, roomed, written}

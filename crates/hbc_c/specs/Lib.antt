@@ -1,7 +1,6 @@
 pub mod Code
 pub mod Io
 pub mod Function
-pub mod FunctionLaws
 pub mod Table
 pub mod Buffer
 pub mod Parsing

@@ -8,7 +8,7 @@ use lib.Dec.{ltb}
 use Rattle.hbc_io.specs.Outcome.{limit}
 use Rattle.hbc_rows.specs.Rows.{row, rows, putRow}
 use Rattle.hbc_rows.specs.declared.Row.{Row}
-use Rattle.hbc_header.specs.Answer.{Answer, gives, refuses, refusedAt}
+use Rattle.hbc_io.specs.Answer.{Answer, gives, refuses, refusedAt}
 use Rattle.hbc_parsing_handlers.specs.Handlers.{written, handlersAnswer, leftBy}
 use Rattle.hbc_parsing_sections.specs.declared.Section.{Section}
 use Rattle.hbc_parsing_sections.specs.declared.Sources.{Sources}

@@ -1,7 +1,7 @@
 // The calls on function headers. A layout is a number, 0 legacy and 1 modern; the low half of an accepted answer is how many rows were written.
 ghost use mathlib.Core.Path.{_≡_};
 ghost use lib.ListN.{length};
-ghost use Rattle.hbc_header.specs.Answer.{refusedAt};
+ghost use Rattle.hbc_io.specs.Answer.{refusedAt};
 ghost use Rattle.hbc_header_ground.specs.Meets.{meetsIn};
 ghost use Rattle.hbc_function.specs.Table.{readAnswer, readTable};
 ghost use Rattle.hbc_function.specs.Refresh.{refreshAnswer, refreshTable};

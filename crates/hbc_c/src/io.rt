@@ -5,7 +5,7 @@ ghost use Rattle.hbc_bits.specs.Bits.{field};
 ghost use Rattle.hbc_io.specs.Outcome.{cursorAt, left, valued, twos};
 ghost use Rattle.hbc_io.specs.Plain.{plainAt, seekTo, alignTo, bytesAt};
 ghost use Rattle.hbc_io_leb.specs.Leb.{lebBytes, unsignedOf, signedOf};
-ghost use Rattle.hbc_io_text.specs.Text.{zeroEnded, prefixed};
+ghost use Rattle.hbc_io_strings.specs.Text.{zeroEnded, prefixed};
 ghost use Rattle.hbc_c.specs.Io.{Moves, Told, ToldSpan};
 use crate::code;
 use hbc_io::Cursor;
@@ -255,7 +255,7 @@ pub extern "C" fn hbc_read_cstring(
 ) -> u64
     ensures { λ r. ⌜ ToldSpan (zeroEnded (now (s .entry)) (cursorAt (now (at .entry)))) (now (start .entry)) (now (size .entry)) r (now (at .exit)) (now (start .exit)) (now (size .exit)) ⌝ }
 {
-    match hbc_io_text::read_cstring(s, Cursor { at: *at }) {
+    match hbc_io_strings::read_cstring(s, Cursor { at: *at }) {
         ReadSpan::Got(p, next) => {
             *start = p.start;
             *size = p.len;
@@ -278,7 +278,7 @@ pub extern "C" fn hbc_read_length_prefixed_string(
 ) -> u64
     ensures { λ r. ⌜ ToldSpan (prefixed (now (s .entry)) (cursorAt (now (at .entry)))) (now (start .entry)) (now (size .entry)) r (now (at .exit)) (now (start .exit)) (now (size .exit)) ⌝ }
 {
-    match hbc_io_text::read_length_prefixed_string(s, Cursor { at: *at }) {
+    match hbc_io_strings::read_length_prefixed_string(s, Cursor { at: *at }) {
         ReadSpan::Got(p, next) => {
             *start = p.start;
             *size = p.len;

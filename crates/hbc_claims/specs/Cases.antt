@@ -14,7 +14,7 @@ use Rattle.hbc_io.specs.Plain.{plainAt}
 use Rattle.hbc_io_leb.specs.Leb.{lebBytes, signedOf}
 use Rattle.hbc_header.specs.declared.Layout.the-variants.{Legacy16, Modern12}
 use Rattle.hbc_header.specs.declared.Record.the-variants as rec
-use Rattle.hbc_header.specs.Answer.{gives, refusedAt}
+use Rattle.hbc_io.specs.Answer.{gives, refusedAt}
 use Rattle.hbc_header.specs.Record.{legacyOf, modernOf, legacyLarge, modernLarge, overflowed, legacyPlace, modernPlace}
 use Rattle.hbc_header.specs.Header.{groundBy, legacyGround, modernGround, whereOf, legacyWhere, modernWhere, legacyAt, modernAt, functionAt, readFunction}
 use Rattle.hbc_rows.specs.Rows.{entryAt, putRow, putRows}

@@ -16,7 +16,7 @@ use Rattle.hbc_io.specs.declared.Refusal.{Refusal}
 use Rattle.hbc_io.specs.declared.Moved.the-variants as moved
 use Rattle.hbc_io_leb.specs.declared.Sleb.{Sleb}
 use Rattle.hbc_io_leb.specs.Leb.{lebBytes, dwarfUnsigned, dwarfSigned, unsignedOf, signedOf}
-use Rattle.hbc_io_text.specs.Text.{zeroEnded, prefixed}
+use Rattle.hbc_io_strings.specs.Text.{zeroEnded, prefixed}
 use Rattle.hbc_header.specs.declared.Layout.{Layout}
 use Rattle.hbc_header.specs.declared.Legacy.{Legacy}
 use Rattle.hbc_header.specs.declared.Modern.{Modern}
@@ -25,7 +25,8 @@ use Rattle.hbc_header.specs.declared.Record.the-variants as rec
 use Rattle.hbc_header.specs.declared.Ground.the-variants as ground
 use Rattle.hbc_header.specs.declared.Reading.{Reading}
 use Rattle.hbc_header.specs.declared.Reading.the-variants as reading
-use Rattle.hbc_header.specs.Answer.{Answer, gives, refuses, refusedAt, asked, ofReading}
+use Rattle.hbc_io.specs.Answer.{Answer, gives, refuses, refusedAt, asked}
+use Rattle.hbc_header.specs.Answer.{saysReading}
 use Rattle.hbc_header.specs.Record.{legacyOf, modernOf, legacyLarge, modernLarge, overflowed, legacyPlace, modernPlace}
 use Rattle.hbc_header.specs.Header.{sizeOf, largeOf, groundAt, legacyAt, modernAt}
 use Rattle.hbc_header.specs.Row.{width, rowInto}
@@ -33,7 +34,7 @@ use Rattle.hbc_header_ground.specs.Meets.{overlap, meets}
 use Rattle.hbc_function.specs.declared.Refreshed.{Refreshed}
 use Rattle.hbc_function.specs.declared.Refreshed.the-variants as refreshed
 use Rattle.hbc_function.specs.Table.{readAnswer, readTable, ReadFunctions}
-use Rattle.hbc_function.specs.Refresh.{ofRefreshed, refreshAnswer, refreshTable, RefreshFunctions}
+use Rattle.hbc_function.specs.Refresh.{saysRefreshed, refreshAnswer, refreshTable, RefreshFunctions}
 use Rattle.hbc_rows.specs.Rows.{entryAt, rowAt, rows}
 use Rattle.hbc_table.specs.Table.{tableAt, ReadTable}
 use Rattle.hbc_table_strings.specs.declared.Decoded.the-variants as decoded
@@ -51,9 +52,9 @@ use Rattle.hbc_parsing_handlers.specs.Why.{why, shown}
 use Rattle.hbc_parsing_handlers.specs.Handlers.{total, handlerRow, written, ReadHandlers}
 use Rattle.hbc_parsing_sections.specs.declared.Sections.{Sections}
 use Rattle.hbc_parsing_sections.specs.Sections.{sectionsAt}
-use Rattle.hbc_parsing_sections.specs.Laid.{Laid, laid}
-use Rattle.hbc_debug_items.specs.Signed.{slebAt}
-use Rattle.hbc_debug_items.specs.Until.{until}
+use Rattle.hbc_parsing_sections.proofs.Laid.{Laid, laid}
+use Rattle.hbc_io_leb.specs.Signed.{slebAt}
+use Rattle.hbc_rows.specs.Until.{until}
 use Rattle.hbc_debug_parts.specs.declared.InFile.{InFile}
 use Rattle.hbc_debug_strings.specs.Strings.{stringsOf, stringWords, stringTable}
 use Rattle.hbc_debug_scopes.specs.Scopes.{scopeAt, scopesOf, scopeWords, nameWords}
@@ -162,7 +163,7 @@ pub record Edited (a b : List ℕ) (layout : Layout) (start count low high : ℕ
 -- then (`demand-3`), r and t₂ being a fresh read's of b into t, and q and t₃ the refresh's of t₁ with b:
 pub record AsFresh (r : Reading) (q : Refreshed) (t₁ t₂ t₃ : List ℕ) : Type 0 where
   -- (a) the refresh is accepted exactly when the fresh read is, and else refused with the same number at the same function
-  pub answers : ofReading r ≡ asked (ofRefreshed q)
+  pub answers : saysReading r ≡ asked (saysRefreshed q)
   -- (b) accepted, it leaves the fresh read's table, every word; refused, the table as it was
   pub accepted : r ≡ reading.Read → t₃ ≡ t₂
   pub refused : (x : Refusal) → r ≡ reading.Refused x → t₃ ≡ t₁

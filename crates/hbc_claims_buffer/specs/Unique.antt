@@ -5,7 +5,7 @@ use Rattle.hbc_io.proofs.Reading.{not-both}
 use Rattle.hbc_io.proofs.Alone.{oneU64}
 use Rattle.hbc_buffer_literal.specs.declared.ReadLiteral.{ReadLiteral}
 use Rattle.hbc_buffer_literal.specs.declared.ReadLiteral.the-variants as lit
-use Rattle.hbc_buffer_literal.specs.Literal.{ofLiteral}
+use Rattle.hbc_buffer_literal.specs.Literal.{saysLiteral}
 use Rattle.hbc_buffer_literal.proofs.width.Reads as of-width
 use Rattle.hbc_buffer_literal.proofs.kind.Reads as of-kind
 use Rattle.hbc_buffer_literal.proofs.read_payload.Reads as of-read-payload
@@ -16,7 +16,7 @@ use Rattle.hbc_buffer_object.proofs.read_object.Reads as of-read-object
 use Rattle.hbc_claims_law.specs.Law.{One, Seen, Both2, same}
 
 -- an answer is known by what it says
-oneLiteral : (r q : ReadLiteral) → ofLiteral r ≡ ofLiteral q → r ≡ q
+oneLiteral : (r q : ReadLiteral) → saysLiteral r ≡ saysLiteral q → r ≡ q
 oneLiteral (lit.Got v n) (lit.Got w m) e = cc
 oneLiteral (lit.Refused a n) (lit.Refused b m) e = cc
 oneLiteral (lit.Got v n) (lit.Refused b m) e = absurd (not-both refl e)

@@ -14,7 +14,7 @@ use Rattle.hbc_io.specs.declared.Cursor.{Cursor}
 use Rattle.hbc_rows.specs.Rows.{rows}
 use Rattle.hbc_header.specs.declared.Layout.{Layout}
 use Rattle.hbc_header.specs.declared.Layout.the-variants as lay
-use Rattle.hbc_header.specs.Answer.{Answer, gives, refuses, refusedAt}
+use Rattle.hbc_io.specs.Answer.{Answer, gives, refuses, refusedAt}
 use Rattle.hbc_header.specs.Header.{functionAt}
 use Rattle.hbc_header_ground.specs.Meets.{meets}
 use Rattle.hbc_function.specs.Table.{written, readAnswer, readTable}

@@ -8,7 +8,7 @@ use Rattle.hbc_io.specs.declared.Cursor.{Cursor}
 use Rattle.hbc_io.specs.declared.Refusal.{Refusal}
 use Rattle.hbc_io.specs.declared.Span.{Span}
 use Rattle.hbc_io_leb.specs.Leb.{lebBytes}
-use Rattle.hbc_io_text.specs.Text.{zeroEnded, prefixed}
+use Rattle.hbc_io_strings.specs.Text.{zeroEnded, prefixed}
 use Rattle.hbc_c.specs.Code.{codeOf}
 use Rattle.hbc_c.specs.Io.{Moves, Told, ToldSpan}
 use Rattle.hbc_claims_io.specs.Refused.{lebLeft, textLeft, PrefixLeft, plain-left, number-left, bytes-left, seek-left, align-left, leb-left, zero-left, prefix-left}

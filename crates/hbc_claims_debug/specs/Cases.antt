@@ -8,9 +8,9 @@ use Rattle.hbc_io_leb.specs.Answers.{slebOf}
 use Rattle.hbc_io.specs.Outcome.{refusal}
 use Rattle.hbc_io.specs.Plain.{spanOf, bytesAt}
 use Rattle.hbc_io_leb.specs.Leb.{lebBytes}
-use Rattle.hbc_io_text.specs.Text.{prefixed}
-use Rattle.hbc_debug_items.specs.Until.{until, after}
-use Rattle.hbc_debug_items.specs.Signed.{slebAt, upTo, below, low32}
+use Rattle.hbc_io_strings.specs.Text.{prefixed}
+use Rattle.hbc_rows.specs.Until.{until, after}
+use Rattle.hbc_io_leb.specs.Signed.{slebAt, upTo, below, low32}
 use Rattle.hbc_debug_parts.specs.Parts.{partsOf, isEmpty, noParts}
 use Rattle.hbc_debug_parts.specs.declared.FindParts.the-variants as find
 use Rattle.hbc_debug_strings.specs.Strings.{stringsOf}

@@ -7,12 +7,13 @@ use lib.ListN.{length}
 use Rattle.hbc_io.specs.Outcome.{Outcome, got, refused, cursorAt}
 use Rattle.hbc_io.specs.declared.Cursor.{Cursor}
 use Rattle.hbc_io.proofs.Reading.{then-got}
-use Rattle.hbc_io_text.specs.Text.{prefixed}
-use Rattle.hbc_io_text.proofs.Texts.{prefix-moves}
-use Rattle.hbc_debug_items.specs.Until.{until, after}
-use Rattle.hbc_debug_items.specs.Signed.{slebAt}
-use Rattle.hbc_debug_items.proofs.Untils.{until-more, until-stop}
-use Rattle.hbc_debug_items.proofs.Moves.{sleb-moves, far}
+use Rattle.hbc_io_strings.specs.Text.{prefixed}
+use Rattle.hbc_io_strings.proofs.Texts.{prefix-moves}
+use Rattle.hbc_rows.specs.Until.{until, after}
+use Rattle.hbc_io_leb.specs.Signed.{slebAt}
+use Rattle.hbc_rows.proofs.Untils.{until-more, until-stop}
+use Rattle.hbc_io_leb.proofs.Moves.{sleb-moves}
+use Rattle.hbc_rows.proofs.Far.{far}
 use Rattle.hbc_debug_strings.specs.Strings.{stringsOf}
 use Rattle.hbc_debug_scopes.specs.Scopes.{Front, frontAt, Scope, scopeAt, scopesOf}
 use Rattle.hbc_debug_scopes.proofs.Fronts.{front-inside}

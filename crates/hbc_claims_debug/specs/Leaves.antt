@@ -13,7 +13,7 @@ use Rattle.hbc_io.proofs.Reading.{valued-refused}
 use Rattle.hbc_io_leb.specs.Leb.{lebBytes}
 use Rattle.hbc_io_leb.specs.Answers.{slebOf}
 use Rattle.hbc_io_leb.specs.declared.Sleb.{Sleb}
-use Rattle.hbc_debug_items.specs.Signed.{slebAt}
+use Rattle.hbc_io_leb.specs.Signed.{slebAt}
 use Rattle.hbc_claims_io.specs.Refused.{lebLeft, leb-left}
 use Rattle.hbc_io.specs.declared.Refusal.{Refusal}
 use Rattle.hbc_debug_parts.specs.Parts.{partsOf, bytesOf}

@@ -1,14 +1,9 @@
 -- Each public call's contract, as the checker has it, leaves one answer, and one value for every lent word.
-use mathlib.Core.Path.{_≡_, ap, _∙_}
+use mathlib.Core.Path.{ap, _∙_}
 use mathlib.Core.List.{List}
 use Prim.Native.Nat.{ℕ}
 use denote.Ref.{now}
-use native.Mathlib.Omega.{arith}
-use Rattle.hbc_debug_items.specs.Signed.{ofHeld}
-use Rattle.hbc_debug_items.specs.declared.ReadHeld.{ReadHeld}
-use Rattle.hbc_debug_items.specs.declared.ReadHeld.the-variants as held
 use Rattle.hbc_debug.specs.Debug.{tables}
-use Rattle.hbc_debug_items.proofs.read_bits.Reads as of-read-bits
 use Rattle.hbc_debug_parts.proofs.find_parts.Reads as of-find-parts
 use Rattle.hbc_debug_parts.proofs.part_bytes.Reads as of-part-bytes
 use Rattle.hbc_debug_strings.proofs.count_strings.Reads as of-count-strings
@@ -20,15 +15,7 @@ use Rattle.hbc_debug_callees.proofs.write_callees.Reads as of-write-callees
 use Rattle.hbc_debug.proofs.read_debug.Reads as of-read-debug
 use Rattle.hbc_claims_law.specs.Law.{One, Seen, Words, Both, same}
 
--- an answer is known by what each of its cases says
-held-one : (r q : ReadHeld) → ofHeld r ≡ ofHeld q → r ≡ q
-held-one (held.Got v n) (held.Got w m) e = cc
-held-one (held.Refused v n) (held.Refused w m) e = cc
-held-one (held.Got v n) (held.Refused w m) e = let z : _≡_ {A = ℕ} 0 1 = cc in absurd (omega arith)
-held-one (held.Refused v n) (held.Got w m) e = let z : _≡_ {A = ℕ} 0 1 = cc in absurd (omega arith)
-
 pub data Call : Type 0 where
-  read_bits : Call
   find_parts : Call
   part_bytes : Call
   count_strings : Call
@@ -40,7 +27,6 @@ pub data Call : Type 0 where
   read_debug : Call
 
 abbrev pub Determined : Call → Type 0
-Determined read_bits = One of-read-bits.Learnt
 Determined find_parts = One of-find-parts.Learnt
 Determined part_bytes = Seen of-part-bytes.Learnt (λ r. now r)
 Determined count_strings = One of-count-strings.Learnt
@@ -52,7 +38,6 @@ Determined write_callees = Words of-write-callees.Learnt (λ s. now (s .1 .1 .0)
 Determined read_debug = Both of-read-debug.Learnt (λ s. tables (now (s .1 .1 .0)) (now (s .1 .1 .1 .0)) (now (s .1 .1 .1 .1 .0)) (now (s .1 .1 .1 .1 .1 .0)))
 
 pub determined : (c : Call) → Determined c
-determined read_bits = λ k a r q s u e f. held-one r q (same e f)
 determined find_parts = λ k a r q s u. same
 determined part_bytes = λ k a r q s u. same
 determined count_strings = λ k a r q s u e f. ap (λ (n : ℕ). record { strings = n }) (same e f)

@@ -8,7 +8,7 @@ use lib.ListN.{length, getD, take, drop}
 use lib.Seq.{take-nil}
 use Rattle.hbc_bits.specs.Bits.{littleEndian, leAt}
 use Rattle.hbc_header_ground.specs.Meets.{overlap}
-use Rattle.hbc_header_ground.specs.Laws.{shares}
+use Rattle.hbc_header_ground.proofs.Laws.{shares}
 
 -- a and b have the same bytes from lo up to hi
 pub record Agree (a b : List ℕ) (lo hi : ℕ) : Type 0 where

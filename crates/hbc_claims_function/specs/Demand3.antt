@@ -14,15 +14,16 @@ use Rattle.hbc_header.specs.declared.Layout.{Layout}
 use Rattle.hbc_header.specs.declared.Record.{Record}
 use Rattle.hbc_header.specs.declared.Reading.{Reading}
 use Rattle.hbc_header.specs.declared.Reading.the-variants as reading
-use Rattle.hbc_header.specs.Answer.{Answer, gives, refuses, asked, ofReading}
+use Rattle.hbc_io.specs.Answer.{Answer, gives, refuses, asked}
+use Rattle.hbc_header.specs.Answer.{saysReading}
 use Rattle.hbc_header.specs.Header.{functionAt}
 use Rattle.hbc_header.specs.Row.{width}
 use Rattle.hbc_header_ground.specs.Meets.{meets}
 use Rattle.hbc_function.specs.declared.Refreshed.{Refreshed}
 use Rattle.hbc_function.specs.declared.Refreshed.the-variants as refreshed
 use Rattle.hbc_function.specs.Table.{scan, putRows, all, readAnswer, ReadFunctions}
-use Rattle.hbc_function.specs.Refresh.{ofRefreshed, held, refreshAnswer, RefreshFunctions}
-use Rattle.hbc_function.specs.Laws.{scanned, met}
+use Rattle.hbc_function.specs.Refresh.{saysRefreshed, held, refreshAnswer, RefreshFunctions}
+use Rattle.hbc_function.proofs.Laws.{scanned, met}
 use Rattle.hbc_claims_function.specs.Agree.{Same}
 use Rattle.hbc_claims_function.specs.Function.{function-same}
 use Rattle.hbc_claims_function.specs.Words.{wordOf, wordAfter, after-put, after-not, after-behind, rows-long, rows-word}
@@ -113,7 +114,7 @@ module _ {a b : List ℕ} {low high : ℕ} (v : Same a b low high) (layout : Lay
       ∙ over (meets b layout start low high) (functionAt a layout start) (functionAt b layout start) (λ i m. function-same v i layout start m) count n (y .scans) t (x .holds)
       ∙ sym (was-read f)
 
-  by-case : (r : Reading) (q : Refreshed) → ofReading r ≡ asked (ofRefreshed q) → ReadFunctions b layout start count t r t₂
+  by-case : (r : Reading) (q : Refreshed) → saysReading r ≡ asked (saysRefreshed q) → ReadFunctions b layout start count t r t₂
       → RefreshFunctions b layout start count low high t₁ q t₃ → AsFresh r t₂ t₁ q t₃
   by-case reading.Read (refreshed.Done n) e f g = record {
     when-read = λ h. (n, refl, refreshed-is f g);
@@ -132,7 +133,7 @@ module _ {a b : List ℕ} {low high : ℕ} (v : Same a b low high) (layout : Lay
 
   -- one equation for the four directions
   pub answers : {r : Reading} {q : Refreshed} → low ≤ high → high ≤ length b → ReadFunctions b layout start count t r t₂
-      → RefreshFunctions b layout start count low high t₁ q t₃ → ofReading r ≡ asked (ofRefreshed q)
+      → RefreshFunctions b layout start count low high t₁ q t₃ → saysReading r ≡ asked (saysRefreshed q)
   answers l h f g =
       let x = accepted a layout start count (length t) (sym (p .says)) in
       let n : length t₁ ≡ length t = ap length (was-read p) ∙ rows-long all (functionAt a layout start) t count (x .holds) in

@@ -19,7 +19,7 @@ use Rattle.hbc_header.specs.declared.Ground.{Ground}
 use Rattle.hbc_header.specs.declared.Ground.the-variants as ground
 use Rattle.hbc_header.specs.declared.Where.{Where}
 use Rattle.hbc_header.specs.declared.Where.the-variants as wh
-use Rattle.hbc_header.specs.Answer.{Answer, gives, asked}
+use Rattle.hbc_io.specs.Answer.{Answer, gives, asked}
 use Rattle.hbc_header.specs.Record.{legacyOf, modernOf, legacyLarge, modernLarge, overflowed, legacyPlace, modernPlace}
 use Rattle.hbc_header.specs.Header.{sizeOf, headerAt, groundBy, legacyGround, modernGround, groundAt, whereOf, legacyWhere, modernWhere, legacyFound, modernFound, legacyAt, modernAt, functionAt}
 use Rattle.hbc_header_ground.specs.Meets.{overlap, groundMeets, meets}

@@ -12,7 +12,7 @@ use Rattle.hbc_header.specs.declared.Layout.the-variants.{Legacy16, Modern12}
 use Rattle.hbc_header.specs.declared.Legacy.{Legacy}
 use Rattle.hbc_header.specs.declared.Modern.{Modern}
 use Rattle.hbc_header.specs.declared.Record.the-variants as rec
-use Rattle.hbc_header.specs.Answer.{gives}
+use Rattle.hbc_io.specs.Answer.{gives}
 use Rattle.hbc_header.specs.Record.{legacyOf, modernOf, legacyLarge, modernLarge, overflowed, legacyPlace, modernPlace}
 use Rattle.hbc_header.specs.Header.{groundBy, legacyGround, modernGround, whereOf, legacyWhere, modernWhere, legacyAt, modernAt, functionAt, readFunction}
 

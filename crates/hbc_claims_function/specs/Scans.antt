@@ -11,11 +11,11 @@ use borrow.Author.Tests.{eqb-true, eqb-false}
 use Rattle.hbc_io.specs.declared.Refusal.{Refusal}
 use Rattle.hbc_header.specs.declared.Layout.{Layout}
 use Rattle.hbc_header.specs.declared.Record.{Record}
-use Rattle.hbc_header.specs.Answer.{Answer, gives, refuses, asked}
+use Rattle.hbc_io.specs.Answer.{Answer, gives, refuses, asked}
 use Rattle.hbc_header.specs.Header.{sizeOf, functionAt}
 use Rattle.hbc_function.specs.Table.{counted, step, scan, all}
 use Rattle.hbc_function.specs.Refresh.{held}
-use Rattle.hbc_function.specs.Laws.{size-pos}
+use Rattle.hbc_function.proofs.Laws.{size-pos}
 use Rattle.hbc_claims_function.specs.Function.{ends}
 
 pub no-gives : {A : Type 0} {x : Refusal} {a : A} → refuses x ≡ gives a → ⊥

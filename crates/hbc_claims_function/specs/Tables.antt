@@ -8,7 +8,7 @@ use lib.ListN.{length, getD}
 use Rattle.hbc_header.specs.declared.Layout.{Layout}
 use Rattle.hbc_header.specs.declared.Record.{Record}
 use Rattle.hbc_header.specs.declared.Reading.the-variants as reading
-use Rattle.hbc_header.specs.Answer.{Answer, gives}
+use Rattle.hbc_io.specs.Answer.{Answer, gives}
 use Rattle.hbc_header.specs.Header.{functionAt}
 use Rattle.hbc_header.specs.Row.{width, rowWords}
 use Rattle.hbc_header_ground.specs.Meets.{meets}

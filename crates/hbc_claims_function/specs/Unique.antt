@@ -5,10 +5,10 @@ use Rattle.hbc_header.specs.declared.Function.{Function}
 use Rattle.hbc_header.specs.declared.Function.the-variants as fun
 use Rattle.hbc_header.specs.declared.Reading.{Reading}
 use Rattle.hbc_header.specs.declared.Reading.the-variants as reading
-use Rattle.hbc_header.specs.Answer.{ofFunction, ofReading}
+use Rattle.hbc_header.specs.Answer.{saysFunction, saysReading}
 use Rattle.hbc_function.specs.declared.Refreshed.{Refreshed}
 use Rattle.hbc_function.specs.declared.Refreshed.the-variants as refreshed
-use Rattle.hbc_function.specs.Refresh.{ofRefreshed}
+use Rattle.hbc_function.specs.Refresh.{saysRefreshed}
 use Rattle.hbc_header.proofs.read_function.Reads as of-read-function
 use Rattle.hbc_header.proofs.check_function.Reads as of-check-function
 use Rattle.hbc_header.proofs.function_row.Reads as of-function-row
@@ -23,19 +23,19 @@ use Rattle.hbc_claims_function.specs.Scans.{no-gives}
 use Rattle.hbc_claims_law.specs.Law.{One, Words, Both, same}
 
 -- an answer is known by what it says
-pub one-function : (a b : Function) → ofFunction a ≡ ofFunction b → a ≡ b
+pub one-function : (a b : Function) → saysFunction a ≡ saysFunction b → a ≡ b
 one-function (fun.Read r) (fun.Read q) e = cc
 one-function (fun.Refused r) (fun.Refused q) e = cc
 one-function (fun.Read r) (fun.Refused q) e = absurd (no-gives (sym e))
 one-function (fun.Refused r) (fun.Read q) e = absurd (no-gives e)
 
-pub one-reading : (a b : Reading) → ofReading a ≡ ofReading b → a ≡ b
+pub one-reading : (a b : Reading) → saysReading a ≡ saysReading b → a ≡ b
 one-reading reading.Read reading.Read e = refl
 one-reading (reading.Refused r) (reading.Refused q) e = cc
 one-reading reading.Read (reading.Refused q) e = absurd (no-gives (sym e))
 one-reading (reading.Refused r) reading.Read e = absurd (no-gives e)
 
-pub one-refreshed : (a b : Refreshed) → ofRefreshed a ≡ ofRefreshed b → a ≡ b
+pub one-refreshed : (a b : Refreshed) → saysRefreshed a ≡ saysRefreshed b → a ≡ b
 one-refreshed (refreshed.Done r) (refreshed.Done q) e = cc
 one-refreshed (refreshed.Refused r) (refreshed.Refused q) e = cc
 one-refreshed (refreshed.Done r) (refreshed.Refused q) e = absurd (no-gives (sym e))

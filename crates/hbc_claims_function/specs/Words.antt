@@ -10,10 +10,10 @@ use lib.Seq.{getD-take, getD-drop, length-take-le, getD-append-add}
 use lib.Dec.{ltb, eqb}
 use borrow.Author.Tests.{ltb-false, ltb-true, lt-ltb, le-ltb, eqb-true, eqb-false}
 use Rattle.hbc_header.specs.declared.Record.{Record}
-use Rattle.hbc_header.specs.Answer.{Answer, gives, refuses}
+use Rattle.hbc_io.specs.Answer.{Answer, gives, refuses}
 use Rattle.hbc_header.specs.Row.{width, rowWords}
 use Rattle.hbc_function.specs.Table.{putRow, putRows}
-use Rattle.hbc_function.specs.Laws.{words-length, put-length}
+use Rattle.hbc_function.proofs.Laws.{words-length, put-length}
 
 -- word c of a row that held `old` there
 abbrev pub wordOf : Answer Record → ℕ → ℕ → ℕ

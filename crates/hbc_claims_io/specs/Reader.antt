@@ -16,13 +16,13 @@ use denote.Ref.{RefT, now}
 use denote.Triple.Both.{Both}
 use Rattle.hbc_io.specs.Outcome.{left, valued}
 use Rattle.hbc_io.specs.Plain.{plainAt, seekTo, bytesAt, partOf}
-use Rattle.hbc_io.specs.Answers.{ofU32, ofMoved, ofSpan}
+use Rattle.hbc_io.specs.Answers.{saysU32, saysMoved, saysSpan}
 use Rattle.hbc_io.specs.declared.Moved.{Moved}
 use Rattle.hbc_io.specs.declared.ReadU32.{ReadU32}
 use Rattle.hbc_io.specs.declared.ReadSpan.{ReadSpan}
 use Rattle.hbc_io.specs.declared.Span.{Span}
 use Rattle.hbc_io_leb.specs.Leb.{lebBytes}
-use Rattle.hbc_io_leb.specs.Answers.{ulebOf, ofUleb}
+use Rattle.hbc_io_leb.specs.Answers.{ulebOf, saysUleb}
 use Rattle.hbc_io_leb.specs.declared.ReadUleb.{ReadUleb}
 use Rattle.hbc_reader.specs.Reader.{bytesOf, cursorOf, fresh, Reads}
 use Rattle.hbc_reader.specs.declared.ByteReader.{ByteReader}
@@ -52,16 +52,16 @@ Remaining d r = r ≡ left (bytesOf d) (cursorOf d)
 
 -- of a call that is lent the reader by `&mut`: before, the answer, after
 abbrev pub Seek : ℕ → ByteReader → Moved → ByteReader → Type 0
-Seek to d r e = Reads (λ s c. seekTo s c to) d (ofMoved r) e
+Seek to d r e = Reads (λ s c. seekTo s c to) d (saysMoved r) e
 
 abbrev pub U32 : ByteReader → ReadU32 → ByteReader → Type 0
-U32 d r e = Reads (plainAt 4) d (ofU32 r) e
+U32 d r e = Reads (plainAt 4) d (saysU32 r) e
 
 abbrev pub Uleb128 : ByteReader → ReadUleb → ByteReader → Type 0
-Uleb128 d r e = Reads (λ s c. valued ulebOf (lebBytes s c)) d (ofUleb r) e
+Uleb128 d r e = Reads (λ s c. valued ulebOf (lebBytes s c)) d (saysUleb r) e
 
 abbrev pub Bytes : ℕ → ByteReader → ReadSpan → ByteReader → Type 0
-Bytes n d r e = Reads (bytesAt n) d (ofSpan r) e
+Bytes n d r e = Reads (bytesAt n) d (saysSpan r) e
 
 abbrev pub Part : Span → ByteReader → RefT (List ℕ) → Type 0
 Part p d r = now r ≡ partOf (bytesOf d) p

@@ -13,8 +13,8 @@ use Rattle.hbc_io.specs.declared.Span.{Span}
 use Rattle.hbc_io.proofs.Reading.{not-both, valued-refused}
 use Rattle.hbc_io_leb.specs.Leb.{lebBytes, going}
 use Rattle.hbc_io_leb.specs.Answers.{ulebOf}
-use Rattle.hbc_io_text.specs.Text.{zeroEnded, before0, prefixed}
-use Rattle.hbc_io_text.proofs.Texts.{prefix-got, prefix-refused}
+use Rattle.hbc_io_strings.specs.Text.{zeroEnded, before0, prefixed}
+use Rattle.hbc_io_strings.proofs.Texts.{prefix-got, prefix-refused}
 use Rattle.hbc_claims_law.specs.Tests.{either}
 
 -- where a refused read leaves it: where it was

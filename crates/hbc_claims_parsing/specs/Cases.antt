@@ -7,7 +7,7 @@ use lib.ListN.{replicate}
 use Rattle.hbc_bits.specs.Bits.{leAt, field}
 use Rattle.hbc_io.specs.Plain.{bytesAt, seekTo, alignTo}
 use Rattle.hbc_rows.specs.Rows.{entryAt}
-use Rattle.hbc_header.specs.Answer.{gives, refusedAt}
+use Rattle.hbc_io.specs.Answer.{gives, refusedAt}
 use Rattle.hbc_header.specs.Row.{width}
 use Rattle.hbc_parsing_handlers.specs.declared.Why.the-variants as w
 use Rattle.hbc_parsing_handlers.specs.Why.{counted, tableAt, whyAt, why, shown}

@@ -7,7 +7,7 @@ use native.Mathlib.Omega.{arith}
 use lib.ListN.{length}
 use borrow.Author.Tests.{le-ltb}
 use Rattle.hbc_io.specs.Outcome.{Outcome, got, cursorAt, limit, valued}
-use Rattle.hbc_io.specs.Answers.{ofMoved}
+use Rattle.hbc_io.specs.Answers.{saysMoved}
 use Rattle.hbc_io.specs.declared.Cursor.{Cursor}
 use Rattle.hbc_io.specs.declared.Moved.{Moved}
 use Rattle.hbc_rows.specs.Rows.{filled}
@@ -17,7 +17,7 @@ use Rattle.hbc_parsing_sections.specs.declared.Sources.{Sources}
 use Rattle.hbc_parsing_sections.specs.declared.Sources.the-variants as src
 use Rattle.hbc_parsing_sections.specs.declared.Sections.{Sections}
 use Rattle.hbc_parsing_sections.specs.Sections.{sectionsAt}
-use Rattle.hbc_parsing_sections.specs.Laid.{There, SourcesThere, laid}
+use Rattle.hbc_parsing_sections.proofs.Laid.{There, SourcesThere, laid}
 
 -- a section's start and entries, given to the pair call with a table that holds them
 abbrev pub Fits : List ℕ → Section → Type 0
@@ -36,7 +36,7 @@ fits s p h r t k =
 
 -- so says that call's own contract
 pub pairs-read : {s : List ℕ} (p : Section) {t after : List ℕ} {r : Moved} → Fits s p → 2 * p .entries ≤ length t → ReadTable 2 s (cursorAt (p .start)) (p .entries) t r after
-    → (ofMoved r ≡ got tt (cursorAt (p .start + 4 * (2 * p .entries)))) × (after ≡ filled (wordsFrom s (p .start)) (2 * p .entries) t)
+    → (saysMoved r ≡ got tt (cursorAt (p .start + 4 * (2 * p .entries)))) × (after ≡ filled (wordsFrom s (p .start)) (2 * p .entries) t)
 pairs-read {s} p {t} f h v = (v .says ∙ ap (valued done) (f t h), v .leaves ∙ ap (λ (o : Outcome (List ℕ)). tableIn o t) (f t h))
 
 abbrev pub SourcesFit : List ℕ → Sources → Type 0

@@ -10,7 +10,7 @@ use borrow.Author.Tests.{eqb-true, eqb-false, ltb-true, ltb-false}
 use Rattle.hbc_bits.specs.Bits.{leAt, field}
 use Rattle.hbc_io.specs.Plain.{alignedUp}
 use Rattle.hbc_rows.specs.Rows.{entryAt, rowAt, rows, putRows}
-use Rattle.hbc_rows.specs.RowsAt.{rows-at, rows-other}
+use Rattle.hbc_rows.proofs.RowsAt.{rows-at, rows-other}
 use Rattle.hbc_header.specs.declared.Legacy.{Legacy}
 use Rattle.hbc_header.specs.declared.Modern.{Modern}
 use Rattle.hbc_header.specs.Row.{legacyWords, modernWords}
@@ -19,7 +19,7 @@ use Rattle.hbc_parsing_handlers.specs.declared.Why.{Why}
 use Rattle.hbc_parsing_handlers.specs.declared.Why.the-variants as w
 use Rattle.hbc_parsing_handlers.specs.Why.{table, counted, tableAt, whyAt, why, shownBy, shown, infoIn, flagsIn}
 use Rattle.hbc_parsing_handlers.specs.Handlers.{total, handlerRow, written}
-use Rattle.hbc_parsing_handlers.specs.Laws.{written-length}
+use Rattle.hbc_parsing_handlers.proofs.Laws.{written-length}
 
 -- ---- the words that are read are a header row's info_offset and flags
 

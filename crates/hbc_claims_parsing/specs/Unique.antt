@@ -5,14 +5,14 @@ use mathlib.Core.List.{List}
 use native.Mathlib.Omega.{arith}
 use denote.Ref.{now}
 use Rattle.hbc_io.specs.declared.Refusal.{Refusal}
-use Rattle.hbc_header.specs.Answer.{Answer, gives, refuses}
+use Rattle.hbc_io.specs.Answer.{Answer, gives, refuses}
 use Rattle.hbc_parsing_handlers.specs.declared.Listed.{Listed}
 use Rattle.hbc_parsing_handlers.specs.declared.Listed.the-variants as l
-use Rattle.hbc_parsing_handlers.specs.Handlers.{ofListed, leftBy, ReadHandlers}
+use Rattle.hbc_parsing_handlers.specs.Handlers.{saysListed, leftBy, ReadHandlers}
 use Rattle.hbc_parsing_handlers.proofs.read_handlers.Reads as of-read-handlers
 use Rattle.hbc_parsing_sections.specs.declared.ReadSections.{ReadSections}
 use Rattle.hbc_parsing_sections.specs.declared.ReadSections.the-variants as all
-use Rattle.hbc_parsing_sections.specs.Answers.{ofSections}
+use Rattle.hbc_parsing_sections.specs.Answers.{saysSections}
 use Rattle.hbc_parsing_sections.proofs.trailing_sections.Reads as of-trailing-sections
 use Rattle.hbc_claims_law.specs.Law.{One, Both, same}
 
@@ -20,13 +20,13 @@ not-both : {A : Type 0} {a : A} {r : Refusal} → gives a ≡ refuses r → ⊥
 not-both e = let z : _≡_ {A = ℕ} 0 1 = cc in omega arith
 
 -- two answers that say the same are the same
-oneListed : (r q : Listed) → ofListed r ≡ ofListed q → r ≡ q
+oneListed : (r q : Listed) → saysListed r ≡ saysListed q → r ≡ q
 oneListed (l.Rows n) (l.Rows m) e = cc
 oneListed (l.Refused a) (l.Refused b) e = cc
 oneListed (l.Rows n) (l.Refused b) e = absurd (not-both e)
 oneListed (l.Refused a) (l.Rows m) e = absurd (not-both (sym e))
 
-oneSections : (r q : ReadSections) → ofSections r ≡ ofSections q → r ≡ q
+oneSections : (r q : ReadSections) → saysSections r ≡ saysSections q → r ≡ q
 oneSections (all.Got a) (all.Got b) e = cc
 oneSections (all.Refused a) (all.Refused b) e = cc
 oneSections (all.Got a) (all.Refused b) e = absurd (not-both e)

@@ -12,8 +12,8 @@ use Rattle.hbc_io.specs.Outcome.{limit}
 use Rattle.hbc_io.specs.Plain.{partOf, spanOf}
 use Rattle.hbc_io.specs.declared.Refusal.{Refusal}
 use Rattle.hbc_rows.specs.Rows.{entryAt, row, rows, rowAt, putRows}
-use Rattle.hbc_rows.specs.Laws.{putRows-length}
-use Rattle.hbc_rows.specs.RowsAt.{rows-at, rows-other}
+use Rattle.hbc_rows.proofs.Laws.{putRows-length}
+use Rattle.hbc_rows.proofs.RowsAt.{rows-at, rows-other}
 use Rattle.hbc_rows.specs.declared.Row.{Row}
 use Rattle.hbc_table_strings.specs.declared.Decoded.{Decoded}
 use Rattle.hbc_table_strings.specs.declared.Decoded.the-variants.{Rows, Refused}

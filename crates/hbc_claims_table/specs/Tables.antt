@@ -13,9 +13,9 @@ use Rattle.hbc_io.specs.declared.Refusal.{Refusal}
 use Rattle.hbc_io.specs.declared.Moved.the-variants.{To, Refused}
 use Rattle.hbc_io.proofs.Reading.{past-test, not-both}
 use Rattle.hbc_rows.specs.Rows.{entryAt, filled}
-use Rattle.hbc_rows.specs.RowsAt.{filled-at, filled-past}
+use Rattle.hbc_rows.proofs.RowsAt.{filled-at, filled-past}
 use Rattle.hbc_table.specs.Table.{wordsFrom, wordsAt, ReadTable}
-use Rattle.hbc_table.specs.Laws.{table-got, table-refused}
+use Rattle.hbc_table.proofs.Laws.{table-got, table-refused}
 use Rattle.hbc_claims_law.specs.Tests.{either}
 
 -- an accepted read of n words

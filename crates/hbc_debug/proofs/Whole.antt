@@ -9,8 +9,8 @@ use lib.ListN.{length}
 use lib.Seq.{sets}
 use Rattle.hbc_io.specs.Outcome.{refusal, cursorAt, limit}
 use Rattle.hbc_io.specs.declared.Refusal.{Refusal}
-use Rattle.hbc_io_text.specs.Text.{prefixed}
-use Rattle.hbc_debug_items.proofs.Untils.{until-most}
+use Rattle.hbc_io_strings.specs.Text.{prefixed}
+use Rattle.hbc_rows.proofs.Untils.{until-most}
 use Rattle.hbc_debug_parts.specs.declared.InFile.{InFile}
 use Rattle.hbc_debug_strings.specs.Strings.{stringsOf, stringWords, stringTable}
 use Rattle.hbc_debug_scopes.specs.Scopes.{scopesOf, nameWords, CountedScopes, WrittenScopes}

@@ -7,9 +7,9 @@ use Rattle.hbc_debug_callees.specs.declared.Pair.{Pair}
 use Rattle.hbc_debug_callees.specs.declared.ReadPair.{ReadPair}
 use Rattle.hbc_debug_callees.specs.declared.ReadPair.the-variants as pair
 
-abbrev pub ofPair : ReadPair → Outcome Pair
-ofPair (pair.Got v n) = got v n
-ofPair (pair.Refused f n) = refused (f .refusal) n
+abbrev pub saysPair : ReadPair → Outcome Pair
+saysPair (pair.Got v n) = got v n
+saysPair (pair.Refused f n) = refused (f .refusal) n
 
 unfoldable pub pairBits : ℕ → ℕ → ℕ → Pair
 pairBits n a b = cond (ltb b n) (record { address = a % 4294967296; known = true; name = b }) (record { address = a % 4294967296; known = false; name = 0 })

@@ -13,14 +13,16 @@ use Rattle.hbc_io.specs.Outcome.{Outcome, got, refused, valued, andThen, refusa
 use Rattle.hbc_io.specs.declared.Cursor.{Cursor}
 use Rattle.hbc_io.specs.declared.Refusal.{Refusal}
 use Rattle.hbc_io.proofs.Reading.{valued-got, valued-refused, then-got}
-use Rattle.hbc_debug_items.specs.Signed.{slebAt, bitsOf, heldOf, upTo, below, natural, low32}
-use Rattle.hbc_debug_items.specs.declared.Held.{Held}
-use Rattle.hbc_debug_items.proofs.Words.{bits-up-to, bits-low, natural-bits, natural-le}
-use Rattle.hbc_debug_items.proofs.Reading.{Bits, bits-got, bits-refused}
-use Rattle.hbc_debug_items.specs.Until.{until, flat}
-use Rattle.hbc_debug_items.proofs.Moves.{sleb-moves, far}
+use Rattle.hbc_io_leb.specs.Signed.{slebAt, bitsOf, heldOf, upTo, under, natural, low32}
+use Rattle.hbc_io_leb.specs.declared.Held.{Held}
+use Rattle.hbc_io_leb.proofs.Signed.{bits-up-to, bits-low, natural-bits, natural-le}
+use Rattle.hbc_io_leb.proofs.Helds.{Bits, bits-got, bits-refused}
+use Rattle.hbc_rows.specs.Until.{until, flat}
+use Rattle.hbc_io_leb.proofs.Moves.{sleb-moves}
+use Rattle.hbc_rows.proofs.Far.{far}
 use lib.Seq.{sets}
-use Rattle.hbc_debug_items.proofs.Passes.{Ended, Written, written-on}
+use Rattle.hbc_rows.specs.Until.{Ended}
+use Rattle.hbc_rows.proofs.Passes.{Written, written-on}
 use Rattle.hbc_io_leb.proofs.Lebs.{leb-got}
 use Rattle.hbc_io_leb.specs.Leb.{lebBytes}
 use Rattle.hbc_io_leb.specs.Answers.{slebOf}
@@ -30,7 +32,7 @@ use Rattle.hbc_debug_scopes.specs.Heads.{headOf, wordBits}
 use Rattle.hbc_debug_scopes.specs.declared.Head.{Head}
 
 pub word-bits : (m : ℕ) (z : ℤ) → SFits w64 z → m < 2 ^ 63 → wordBits m (bitsOf z) ≡ wordBelow m z
-unfolding wordBits wordBelow below bitsOf
+unfolding wordBits wordBelow under bitsOf
 word-bits m (pos n) h k = refl
 word-bits m (negsuc n) h k = rw (le-ltb (2 ^ 64 - suc n) m (omega (arith, h .sfits)))
 

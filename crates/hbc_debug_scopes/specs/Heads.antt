@@ -3,7 +3,7 @@ use Prim.Native.Nat.{ℕ}
 use mathlib.Core.Bool.{cond}
 use lib.Dec.{ltb}
 use Rattle.hbc_io.specs.Outcome.{Outcome, got, refused}
-use Rattle.hbc_debug_items.specs.Signed.{low32}
+use Rattle.hbc_io_leb.specs.Signed.{low32}
 use Rattle.hbc_debug_scopes.specs.Scopes.{Front, parentWord, absent}
 use Rattle.hbc_debug_scopes.specs.declared.Head.{Head}
 use Rattle.hbc_debug_scopes.specs.declared.ReadHead.{ReadHead}
@@ -16,6 +16,6 @@ wordBits m b = cond (ltb b m) b absent
 abbrev pub headOf : Front → Head
 headOf h = record { parent = parentWord (h .parent); flags = low32 (h .flags); count = h .count }
 
-abbrev pub ofHead : ReadHead → Outcome Head
-ofHead (head.Got v n) = got v n
-ofHead (head.Refused f n) = refused (f .refusal) n
+abbrev pub saysHead : ReadHead → Outcome Head
+saysHead (head.Got v n) = got v n
+saysHead (head.Refused f n) = refused (f .refusal) n

@@ -9,8 +9,8 @@ use lib.Seq.{sets}
 use Rattle.hbc_io.specs.Outcome.{Outcome, got, refused, andThen, cursorAt, refusal}
 use Rattle.hbc_io.specs.declared.Cursor.{Cursor}
 use Rattle.hbc_io_leb.specs.declared.Sleb.{Sleb}
-use Rattle.hbc_debug_items.specs.Until.{until, after, flat, flatFrom, sum}
-use Rattle.hbc_debug_items.specs.Signed.{slebAt, upTo, below, natural, low32}
+use Rattle.hbc_rows.specs.Until.{until, after, flat, flatFrom, sum}
+use Rattle.hbc_io_leb.specs.Signed.{slebAt, upTo, under, natural, low32}
 
 -- what stands before the names
 pub record Front : Type 0 where
@@ -47,7 +47,7 @@ absent = 4294967295
 
 -- the number, if it is from 0 to below m
 unfoldable pub wordBelow : ℕ → ℤ → ℕ
-wordBelow m z = cond (below m z) (natural z) absent
+wordBelow m z = cond (under m z) (natural z) absent
 
 -- below 0 or from 2^32 - 1 up: none
 abbrev pub parentWord : ℤ → ℕ

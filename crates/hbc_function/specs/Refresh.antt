@@ -6,7 +6,7 @@ use mathlib.Core.Bool.{cond}
 use lib.ListN.{length}
 use lib.Dec.{ltb}
 use Rattle.hbc_header.specs.declared.Layout.{Layout}
-use Rattle.hbc_header.specs.Answer.{Answer, gives, refuses, refusedAt}
+use Rattle.hbc_io.specs.Answer.{Answer, gives, refuses, refusedAt}
 use Rattle.hbc_header.specs.Header.{sizeOf, functionAt, opened}
 use Rattle.hbc_header_ground.specs.Meets.{meets}
 use Rattle.hbc_function.specs.Table.{scan, putRows, roomed, written}
@@ -14,9 +14,9 @@ use Rattle.hbc_function.specs.declared.Refreshed.{Refreshed}
 use Rattle.hbc_function.specs.declared.Refreshed.the-variants as refreshed
 
 -- each case of the answer: how many functions were read again, or the refusal
-abbrev pub ofRefreshed : Refreshed → Answer ℕ
-ofRefreshed (refreshed.Done n) = gives n
-ofRefreshed (refreshed.Refused r) = refuses r
+abbrev pub saysRefreshed : Refreshed → Answer ℕ
+saysRefreshed (refreshed.Done n) = gives n
+saysRefreshed (refreshed.Refused r) = refuses r
 
 -- how many inline headers fit, which is the number of the first that does not
 unfoldable pub held : List ℕ → Layout → ℕ → ℕ
@@ -42,5 +42,5 @@ refreshTable s layout start count low high t =
 
 -- what a refresh promises: r is the answer, and after what the lent table has become
 pub record RefreshFunctions (s : List ℕ) (layout : Layout) (start count low high : ℕ) (before : List ℕ) (r : Refreshed) (after : List ℕ) : Type 0 where
-  pub says : ofRefreshed r ≡ refreshAnswer s layout start count low high (length before)
+  pub says : saysRefreshed r ≡ refreshAnswer s layout start count low high (length before)
   pub leaves : after ≡ refreshTable s layout start count low high before

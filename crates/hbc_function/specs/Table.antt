@@ -8,7 +8,8 @@ use lib.Dec.{ltb}
 use Rattle.hbc_header.specs.declared.Layout.{Layout}
 use Rattle.hbc_header.specs.declared.Record.{Record}
 use Rattle.hbc_header.specs.declared.Reading.{Reading}
-use Rattle.hbc_header.specs.Answer.{Answer, gives, refuses, refusedAt, asked, andThen, ofReading}
+use Rattle.hbc_io.specs.Answer.{Answer, gives, refuses, refusedAt, asked, andThen}
+use Rattle.hbc_header.specs.Answer.{saysReading}
 use Rattle.hbc_header.specs.Header.{functionAt, opened}
 use Rattle.hbc_header.specs.Row.{width, rowWords}
 
@@ -63,5 +64,5 @@ readTable s layout start count t =
 
 -- what a read promises: r is the answer, and after what the lent table has become
 pub record ReadFunctions (s : List ℕ) (layout : Layout) (start count : ℕ) (before : List ℕ) (r : Reading) (after : List ℕ) : Type 0 where
-  pub says : ofReading r ≡ readAnswer s layout start count (length before)
+  pub says : saysReading r ≡ readAnswer s layout start count (length before)
   pub leaves : after ≡ readTable s layout start count before

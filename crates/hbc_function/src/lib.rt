@@ -3,12 +3,13 @@ ghost use mathlib.Core.Path.{_≡_};
 ghost use Prim.Native.Nat.{_+_, _*_, _^_, _≤_, _<_};
 ghost use lib.ListN.{length};
 ghost use lib.Dec.{leb};
-ghost use Rattle.hbc_header.specs.Answer.{gives, ofReading, asked};
+ghost use Rattle.hbc_io.specs.Answer.{gives, asked};
+ghost use Rattle.hbc_header.specs.Answer.{saysReading};
 ghost use Rattle.hbc_header.specs.Header.{functionAt};
 ghost use Rattle.hbc_header.specs.Row.{width};
 ghost use Rattle.hbc_header_ground.specs.Meets.{meets};
 ghost use Rattle.hbc_function.specs.Table.{all, scan, putRow, putRows, ReadFunctions};
-ghost use Rattle.hbc_function.specs.Refresh.{ofRefreshed, held, RefreshFunctions};
+ghost use Rattle.hbc_function.specs.Refresh.{saysRefreshed, held, RefreshFunctions};
 ghost use Rattle.hbc_function.specs.Next.{Next};
 use hbc_header::Layout;
 use hbc_header::Reading;
@@ -30,7 +31,7 @@ pub enum Refreshed {
 // Whether function `id` of a table that starts in a file of at most 2^30 bytes can be read.
 fn check_at(s: &[u8], layout: Layout, start: usize, id: u32) -> Reading
     requires { ⌜ (start ≤ length (now s)) × (length (now s) ≤ 2 ^ 30) ⌝ }
-    ensures { λ r. ⌜ ofReading r ≡ asked (functionAt (now (s .entry)) layout start id) ⌝ }
+    ensures { λ r. ⌜ saysReading r ≡ asked (functionAt (now (s .entry)) layout start id) ⌝ }
 {
     check_function(s, layout, start, id)
 }
@@ -56,7 +57,7 @@ fn write_row(s: &[u8], layout: Layout, start: usize, id: u32, table: &mut [u32])
 // The first refusal among functions 0 to count - 1.
 fn check_all(s: &[u8], layout: Layout, start: usize, count: u32) -> Reading
     requires { ⌜ (start ≤ length (now s)) × (length (now s) ≤ 2 ^ 30) ⌝ }
-    ensures { λ r. ⌜ ofReading r ≡ asked (scan all (functionAt (now (s .entry)) layout start) count) ⌝ }
+    ensures { λ r. ⌜ saysReading r ≡ asked (scan all (functionAt (now (s .entry)) layout start) count) ⌝ }
 {
     let mut id: u32 = 0;
     while id < count {
@@ -142,7 +143,7 @@ fn check_met(
 ) -> Refreshed
     requires { ⌜ (start ≤ length (now s)) × (length (now s) ≤ 2 ^ 30) ⌝ }
     requires { ⌜ Next (meets (now s) layout start low high) 0 count first ⌝ }
-    ensures { λ r. ⌜ ofRefreshed r ≡ scan (meets (now (s .entry)) layout start low high) (functionAt (now (s .entry)) layout start) count ⌝ }
+    ensures { λ r. ⌜ saysRefreshed r ≡ scan (meets (now (s .entry)) layout start low high) (functionAt (now (s .entry)) layout start) count ⌝ }
 {
     let mut n: u32 = 0;
     let mut id = first;

@@ -14,7 +14,7 @@ use Rattle.hbc_header.specs.declared.Ground.{Ground}
 use Rattle.hbc_header.specs.declared.Ground.the-variants as ground
 use Rattle.hbc_header.specs.declared.Where.{Where}
 use Rattle.hbc_header.specs.declared.Where.the-variants as wh
-use Rattle.hbc_header.specs.Answer.{Answer, gives, refusedAt}
+use Rattle.hbc_io.specs.Answer.{Answer, gives, refusedAt}
 use Rattle.hbc_header.specs.Record.{legacyOf, modernOf, legacyLarge, modernLarge, overflowed, legacyPlace, modernPlace}
 
 -- the bytes of an inline header

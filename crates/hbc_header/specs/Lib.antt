@@ -3,5 +3,3 @@ pub mod Answer
 pub mod Record
 pub mod Header
 pub mod Row
-pub mod Laws
-pub mod Copy

@@ -9,7 +9,8 @@ use Rattle.hbc_header.specs.declared.Legacy.{Legacy}
 use Rattle.hbc_header.specs.declared.Modern.{Modern}
 use Rattle.hbc_header.specs.declared.Record.{Record}
 use Rattle.hbc_header.specs.declared.Record.the-variants as rec
-use Rattle.hbc_header.specs.Answer.{Answer, gives, refuses, numberIn}
+use Rattle.hbc_io.specs.Answer.{Answer, gives, refuses}
+use Rattle.hbc_header.specs.Answer.{numberIn}
 
 -- the words of a row
 abbrev pub width : ℕ

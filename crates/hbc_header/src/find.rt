@@ -3,7 +3,8 @@ ghost use mathlib.Core.Path.{_≡_};
 ghost use Prim.Native.Nat.{_+_, _^_, _≤_, _<_};
 ghost use lib.ListN.{length};
 ghost use Rattle.hbc_bits.specs.Bits.{leAt};
-ghost use Rattle.hbc_header.specs.Answer.{ofFunction, ofReading, asked};
+ghost use Rattle.hbc_io.specs.Answer.{asked};
+ghost use Rattle.hbc_header.specs.Answer.{saysFunction, saysReading};
 ghost use Rattle.hbc_header.specs.Record.{legacyOf, modernOf};
 ghost use Rattle.hbc_header.specs.Header.{legacyGround, modernGround, whereOf, legacyWhere, modernWhere, legacyAt, modernAt};
 ghost use Rattle.hbc_header.specs.Row.{width, rowOf};
@@ -80,7 +81,7 @@ fn legacy_where(s: &[u8], at: usize) -> Where
 
 pub(crate) fn legacy_read(s: &[u8], at: usize, id: u32) -> Function
     requires { ⌜ (at < 2 ^ 63) × (length (now s) ≤ 2 ^ 30) ⌝ }
-    ensures { λ f. ⌜ ofFunction f ≡ legacyAt (now (s .entry)) at id ⌝ }
+    ensures { λ f. ⌜ saysFunction f ≡ legacyAt (now (s .entry)) at id ⌝ }
 {
     match legacy_where(s, at) {
         Where::Inline => Function::Read(Record::Legacy(legacy_here(s, at, id))),
@@ -91,7 +92,7 @@ pub(crate) fn legacy_read(s: &[u8], at: usize, id: u32) -> Function
 
 pub(crate) fn legacy_check(s: &[u8], at: usize, id: u32) -> Reading
     requires { ⌜ (at < 2 ^ 63) × (length (now s) ≤ 2 ^ 30) ⌝ }
-    ensures { λ r. ⌜ ofReading r ≡ asked (legacyAt (now (s .entry)) at id) ⌝ }
+    ensures { λ r. ⌜ saysReading r ≡ asked (legacyAt (now (s .entry)) at id) ⌝ }
 {
     match legacy_where(s, at) {
         Where::Inline => Reading::Read,
@@ -151,7 +152,7 @@ fn modern_where(s: &[u8], at: usize) -> Where
 
 pub(crate) fn modern_read(s: &[u8], at: usize, id: u32) -> Function
     requires { ⌜ (at < 2 ^ 63) × (length (now s) ≤ 2 ^ 30) ⌝ }
-    ensures { λ f. ⌜ ofFunction f ≡ modernAt (now (s .entry)) at id ⌝ }
+    ensures { λ f. ⌜ saysFunction f ≡ modernAt (now (s .entry)) at id ⌝ }
 {
     match modern_where(s, at) {
         Where::Inline => Function::Read(Record::Modern(modern_here(s, at, id))),
@@ -162,7 +163,7 @@ pub(crate) fn modern_read(s: &[u8], at: usize, id: u32) -> Function
 
 pub(crate) fn modern_check(s: &[u8], at: usize, id: u32) -> Reading
     requires { ⌜ (at < 2 ^ 63) × (length (now s) ≤ 2 ^ 30) ⌝ }
-    ensures { λ r. ⌜ ofReading r ≡ asked (modernAt (now (s .entry)) at id) ⌝ }
+    ensures { λ r. ⌜ saysReading r ≡ asked (modernAt (now (s .entry)) at id) ⌝ }
 {
     match modern_where(s, at) {
         Where::Inline => Reading::Read,

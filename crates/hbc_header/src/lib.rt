@@ -2,7 +2,8 @@
 ghost use mathlib.Core.Path.{_≡_};
 ghost use Prim.Native.Nat.{_+_, _*_, _<_};
 ghost use lib.ListN.{length};
-ghost use Rattle.hbc_header.specs.Answer.{ofFunction, ofReading, asked};
+ghost use Rattle.hbc_io.specs.Answer.{asked};
+ghost use Rattle.hbc_header.specs.Answer.{saysFunction, saysReading};
 ghost use Rattle.hbc_header.specs.Header.{sizeOf, largeOf, readFunction, groundIn};
 ghost use Rattle.hbc_header.specs.Row.{legacyWords, modernWords, rowWords, rowInto};
 use hbc_io::LIMIT;
@@ -109,7 +110,7 @@ pub fn large_size(layout: Layout) -> usize
 
 // Function `id` of the table at `start`.
 pub fn read_function(file: &[u8], layout: Layout, start: usize, id: u32) -> Function
-    ensures { λ f. ⌜ ofFunction f ≡ readFunction (now (file .entry)) layout start id ⌝ }
+    ensures { λ f. ⌜ saysFunction f ≡ readFunction (now (file .entry)) layout start id ⌝ }
 {
     if file.len() > LIMIT {
         return Function::Refused(refuse(1, 0));
@@ -125,7 +126,7 @@ pub fn read_function(file: &[u8], layout: Layout, start: usize, id: u32) -> Func
 
 // Whether it can be read: the same refusals, and no record.
 pub fn check_function(file: &[u8], layout: Layout, start: usize, id: u32) -> Reading
-    ensures { λ r. ⌜ ofReading r ≡ asked (readFunction (now (file .entry)) layout start id) ⌝ }
+    ensures { λ r. ⌜ saysReading r ≡ asked (readFunction (now (file .entry)) layout start id) ⌝ }
 {
     if file.len() > LIMIT {
         return Reading::Refused(refuse(1, 0));

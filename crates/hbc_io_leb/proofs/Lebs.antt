@@ -17,7 +17,7 @@ use Rattle.hbc_io_leb.specs.Groups.{groupsOf}
 use Rattle.hbc_io.specs.Outcome.{got, refused, valued, cursorAt, refusal, limit}
 use Rattle.hbc_io.specs.declared.Cursor.{Cursor}
 use Rattle.hbc_io.proofs.Reading.{past-test}
-use Rattle.hbc_bits.specs.Laws.{or-parts}
+use Rattle.hbc_bits.proofs.Laws.{or-parts}
 
 -- ---- groups
 

@@ -14,9 +14,9 @@ use Rattle.hbc_io_leb.specs.declared.ReadGroups.the-variants as grps
 abbrev pub groupsOf : List ℕ → Groups
 groupsOf bs = record { bits = unsignedOf bs; count = length bs }
 
-abbrev pub ofGroups : ReadGroups → Outcome Groups
-ofGroups (grps.Got v n) = got v n
-ofGroups (grps.Refused r n) = refused r n
+abbrev pub saysGroups : ReadGroups → Outcome Groups
+saysGroups (grps.Got v n) = got v n
+saysGroups (grps.Refused r n) = refused r n
 
 -- ten groups fill the 64 bits, fewer carry their sign in their highest bit
 abbrev pub signedBits : ℕ → ℕ → ℤ

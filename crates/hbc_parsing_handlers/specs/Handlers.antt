@@ -10,7 +10,7 @@ use Rattle.hbc_io.specs.Outcome.{limit}
 use Rattle.hbc_rows.specs.Rows.{row, rows, putRows}
 use Rattle.hbc_rows.specs.declared.Row.{Row}
 use Rattle.hbc_header.specs.Row.{width}
-use Rattle.hbc_header.specs.Answer.{Answer, gives, refuses, refusedAt}
+use Rattle.hbc_io.specs.Answer.{Answer, gives, refuses, refusedAt}
 use Rattle.hbc_parsing_handlers.specs.declared.Listed.{Listed}
 use Rattle.hbc_parsing_handlers.specs.declared.Listed.the-variants as l
 use Rattle.hbc_parsing_handlers.specs.Why.{shown}
@@ -32,9 +32,9 @@ written s functions (suc i) t =
     putRows (handlerRow s i (shown s functions i .place)) (total s functions i) (shown s functions i .count) (written s functions i t)
 
 -- what each case of the answer says
-abbrev pub ofListed : Listed → Answer ℕ
-ofListed (l.Rows n) = gives n
-ofListed (l.Refused r) = refuses r
+abbrev pub saysListed : Listed → Answer ℕ
+saysListed (l.Rows n) = gives n
+saysListed (l.Refused r) = refuses r
 
 -- 1, then 11 if fewer function rows are lent than the count says; 4, known only after reading, last
 unfoldable pub handlersAnswer : List ℕ → List ℕ → ℕ → ℕ → Answer ℕ
@@ -51,5 +51,5 @@ leftBy (refuses r) new old = old
 
 -- the promise: answer and rows
 pub record ReadHandlers (s functions : List ℕ) (count : ℕ) (before : List ℕ) (r : Listed) (after : List ℕ) : Type 0 where
-  pub says : ofListed r ≡ handlersAnswer s functions count (rows before)
+  pub says : saysListed r ≡ handlersAnswer s functions count (rows before)
   pub leaves : after ≡ leftBy (handlersAnswer s functions count (rows before)) (written s functions count before) before

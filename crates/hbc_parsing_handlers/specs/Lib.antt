@@ -1,3 +1,2 @@
 pub mod Why
 pub mod Handlers
-pub mod Laws

@@ -1,6 +1,6 @@
 -- What each case of an answer of src/ says: what was found, or the refusal; and the cursor, where there is one.
 use Rattle.hbc_io.specs.Outcome.{Outcome, got, refused}
-use Rattle.hbc_header.specs.Answer.{Answer, gives, refuses}
+use Rattle.hbc_io.specs.Answer.{Answer, gives, refuses}
 use Rattle.hbc_parsing_sections.specs.declared.Section.{Section}
 use Rattle.hbc_parsing_sections.specs.declared.Sources.{Sources}
 use Rattle.hbc_parsing_sections.specs.declared.Sections.{Sections}
@@ -11,17 +11,17 @@ use Rattle.hbc_parsing_sections.specs.declared.ReadSources.the-variants 
 use Rattle.hbc_parsing_sections.specs.declared.ReadSections.{ReadSections}
 use Rattle.hbc_parsing_sections.specs.declared.ReadSections.the-variants as all
 
-abbrev pub ofSection : ReadSection → Outcome Section
-ofSection (one.Got s n) = got s n
-ofSection (one.Refused r n) = refused r n
+abbrev pub saysSection : ReadSection → Outcome Section
+saysSection (one.Got s n) = got s n
+saysSection (one.Refused r n) = refused r n
 
-abbrev pub ofSources : ReadSources → Outcome Sources
-ofSources (sources.Got s n) = got s n
-ofSources (sources.Refused r n) = refused r n
+abbrev pub saysSources : ReadSources → Outcome Sources
+saysSources (sources.Got s n) = got s n
+saysSources (sources.Refused r n) = refused r n
 
-abbrev pub ofSections : ReadSections → Answer Sections
-ofSections (all.Got s) = gives s
-ofSections (all.Refused r) = refuses r
+abbrev pub saysSections : ReadSections → Answer Sections
+saysSections (all.Got s) = gives s
+saysSections (all.Refused r) = refuses r
 
 -- what a read found, without its cursor
 abbrev pub told : {A : Type 0} → Outcome A → Answer A

@@ -1,4 +1,2 @@
 pub mod Answers
 pub mod Sections
-pub mod Laws
-pub mod Laid

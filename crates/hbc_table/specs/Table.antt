@@ -8,7 +8,7 @@ use lib.Dec.{ltb}
 use Rattle.hbc_bits.specs.Bits.{leAt}
 use Rattle.hbc_io.specs.Outcome.{Outcome, got, refused, cursorAt, refusal, refusalAt, left, valued}
 use Rattle.hbc_io.specs.Plain.{started}
-use Rattle.hbc_io.specs.Answers.{ofMoved}
+use Rattle.hbc_io.specs.Answers.{saysMoved}
 use Rattle.hbc_io.specs.declared.Cursor.{Cursor}
 use Rattle.hbc_io.specs.declared.Moved.{Moved}
 use Rattle.hbc_rows.specs.Rows.{filled}
@@ -38,7 +38,7 @@ abbrev pub done : List ℕ → Unit {0}
 done t = tt
 
 pub record ReadWords (bytes : ℕ) (s : List ℕ) (c : Cursor) (n : ℕ) (before : List ℕ) (r : Moved) (after : List ℕ) : Type 0 where
-  pub says : ofMoved r ≡ valued done (wordsAt bytes s c n before)
+  pub says : saysMoved r ≡ valued done (wordsAt bytes s c n before)
   pub leaves : after ≡ tableIn (wordsAt bytes s c n before) before
 
 -- the promise: answer and table after a read of count entries

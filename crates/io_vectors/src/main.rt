@@ -490,8 +490,8 @@ fn see(op: usize, s: &[u8], c: Cursor, argument: usize, want: u64) -> Seen {
     match op {
         7 => see_uleb128(s, c, want),
         8 => see_sleb128(s, c, want),
-        9 => see_span(hbc_io_text::read_cstring(s, c), want),
-        10 => see_span(hbc_io_text::read_length_prefixed_string(s, c), want),
+        9 => see_span(hbc_io_strings::read_cstring(s, c), want),
+        10 => see_span(hbc_io_strings::read_length_prefixed_string(s, c), want),
         11 => see_span(hbc_io::read_bytes(s, c, argument), want),
         12 => see_moved(hbc_io::seek(s, c, argument)),
         13 => see_moved(hbc_io::align(s, c, argument)),

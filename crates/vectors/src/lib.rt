@@ -130,7 +130,7 @@ pub fn low(v: u64) -> u32
 fn span_at(s: &[u8], at: usize) -> Span
     ensures { λ r. ⌜ r ≡ spanAt (now (s .entry)) at ⌝ }
 {
-    match hbc_io_text::read_length_prefixed_string(s, Cursor { at }) {
+    match hbc_io_strings::read_length_prefixed_string(s, Cursor { at }) {
         ReadSpan::Got(p, _) => p,
         ReadSpan::Refused(_, _) => Span { start: 0, len: 0 },
     }
@@ -147,7 +147,7 @@ pub fn bytes(s: &[u8], at: usize) -> &[u8]
 pub fn past(s: &[u8], at: usize) -> usize
     ensures { λ r. ⌜ r ≡ pastAt (now (s .entry)) at ⌝ }
 {
-    match hbc_io_text::read_length_prefixed_string(s, Cursor { at }) {
+    match hbc_io_strings::read_length_prefixed_string(s, Cursor { at }) {
         ReadSpan::Got(_, c) => c.at,
         ReadSpan::Refused(_, _) => s.len(),
     }

@@ -2,7 +2,7 @@ use Prim.Native.Nat.{_-_}
 use mathlib.Core.Path.{refl}
 use native.Mathlib.Omega.{arith}
 use lib.ListN.{length}
-use Rattle.hbc_bits.specs.Laws.{field-lt}
+use Rattle.hbc_bits.proofs.Laws.{field-lt}
 use Rattle.hbc_buffer_literal.proofs.Laws.{width-most}
 use Rattle.hbc_buffer.proofs.Fills.{small-product}
 use Rattle.hbc_buffer.proofs.Tags.{tag-there, tag-cut}

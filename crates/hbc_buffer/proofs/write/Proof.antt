@@ -2,7 +2,7 @@ use Prim.Native.Nat.{_-_}
 use mathlib.Core.Path.{_≡_, refl, sym, ap, _∙_}
 use native.Mathlib.Omega.{arith}
 use lib.ListN.{length}
-use Rattle.hbc_bits.specs.Laws.{field-lt}
+use Rattle.hbc_bits.proofs.Laws.{field-lt}
 use Rattle.hbc_io.specs.Outcome.{cursorAt}
 use Rattle.hbc_buffer_literal.specs.Literal.{widthOf}
 use Rattle.hbc_buffer_literal.proofs.Laws.{width-most}

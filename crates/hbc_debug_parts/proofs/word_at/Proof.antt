@@ -1,7 +1,7 @@
 use native.Mathlib.Omega.{arith}
 use mathlib.Core.Path.{ap, _∙_}
 use denote.Ref.{now}
-use Rattle.hbc_io.specs.Answers.{ofU32}
+use Rattle.hbc_io.specs.Answers.{saysU32}
 use Rattle.hbc_io.proofs.Reading.{found}
 use Rattle.hbc_io.proofs.Plains.{plain-value, plain-there}
 use Rattle.hbc_debug_parts.specs.Parts.{wordAt}
@@ -24,12 +24,12 @@ enum-known-r c = search needs
 
 returns : tie.Need-returns
 unfolding wordAt
-returns c = plain-value 4 _ _ (found ofU32 (c .before .before .before .read-u32 .ensures) (c .before .v .given .1)) ∙ ap (λ (p : InFile). wordAt (now (c .before .before .before .before .before .before .args .file)) p) (c .before .before .before .before .section-to-file .ensures)
+returns c = plain-value 4 _ _ (found saysU32 (c .before .before .before .read-u32 .ensures) (c .before .v .given .1)) ∙ ap (λ (p : InFile). wordAt (now (c .before .before .before .before .before .before .args .file)) p) (c .before .before .before .before .section-to-file .ensures)
 
 returns-2 : tie.Need-returns-2
 returns-2 c =
     let p = ap (λ (p : InFile). p .0) (c .before .before .before .before .section-to-file .ensures) in
-    absurd (plain-there 4 _ _ (omega arith) (omega arith) (found ofU32 (c .before .before .before .read-u32 .ensures) (c .before .r .given .1)))
+    absurd (plain-there 4 _ _ (omega arith) (omega arith) (found saysU32 (c .before .before .before .read-u32 .ensures) (c .before .r .given .1)))
 
 pub word-at-spec : {M : Type 1} → statement M
 word-at-spec = tie.close (tie.spec section-to-file-requires read-u32-requires enum-known-v enum-known-r returns returns-2)

@@ -3,8 +3,8 @@ use Prim.Native.Nat.{_-_}
 use native.Mathlib.Omega.{arith}
 use Rattle.hbc_header.specs.Header.{functionAt}
 use Rattle.hbc_header_ground.specs.Meets.{meets}
-use Rattle.hbc_function.specs.Laws.{found-by}
-use Rattle.hbc_function.specs.Passes.{Met, met-first, met-more, met-stops, met-done}
+use Rattle.hbc_function.proofs.Laws.{found-by}
+use Rattle.hbc_function.proofs.Passes.{Met, met-first, met-more, met-stops, met-done}
 use Rattle.hbc_function.proofs.check_met.Statement.{statement}
 use Rattle.hbc_function.proofs.check_met.Tie as tie
 

@@ -4,7 +4,7 @@ use Prim.Native.Nat.{_-_}
 use native.Mathlib.Omega.{arith}
 use Rattle.hbc_header_ground.specs.Meets.{meets}
 use Rattle.hbc_function.specs.Next.{Skipped}
-use Rattle.hbc_function.specs.Passes.{skip-none, skip-more, next-met, next-none}
+use Rattle.hbc_function.proofs.Passes.{skip-none, skip-more, next-met, next-none}
 use Rattle.hbc_function.proofs.next_met.Statement.{statement}
 use Rattle.hbc_function.proofs.next_met.Tie as tie
 

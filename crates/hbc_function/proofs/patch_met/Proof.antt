@@ -3,7 +3,7 @@ use borrow.Author.Needs.{needs}
 use native.Mathlib.Omega.{arith}
 use Rattle.hbc_header.specs.Header.{functionAt}
 use Rattle.hbc_header_ground.specs.Meets.{meets}
-use Rattle.hbc_function.specs.Passes.{put-one, Patched, patch-first, patch-in, patch-more, patch-done}
+use Rattle.hbc_function.proofs.Passes.{put-one, Patched, patch-first, patch-in, patch-more, patch-done}
 use Rattle.hbc_function.proofs.patch_met.Statement.{statement}
 use Rattle.hbc_function.proofs.patch_met.Tie as tie
 

@@ -1,8 +1,8 @@
 use mathlib.Core.Path.{ap, _∙_}
 use native.Mathlib.Omega.{arith}
-use Rattle.hbc_header.specs.Answer.{refuses}
-use Rattle.hbc_function.specs.Laws.{read-long, read-past, read-small, read-done, read-stopped}
-use Rattle.hbc_function.specs.Passes.{put-whole}
+use Rattle.hbc_io.specs.Answer.{refuses}
+use Rattle.hbc_function.proofs.Laws.{read-long, read-past, read-small, read-done, read-stopped}
+use Rattle.hbc_function.proofs.Passes.{put-whole}
 use borrow.Author.Needs.{needs}
 use Rattle.hbc_function.proofs.read_functions.Statement.{statement}
 use Rattle.hbc_function.proofs.read_functions.Tie as tie

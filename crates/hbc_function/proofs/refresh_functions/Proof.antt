@@ -1,8 +1,8 @@
 use mathlib.Core.Path.{refl, ap, sym, _∙_}
 use native.Mathlib.Omega.{arith}
 use Rattle.hbc_io.specs.Outcome.{refusalAt}
-use Rattle.hbc_header.specs.Answer.{refuses}
-use Rattle.hbc_function.specs.Laws.{fresh-by, fresh-long, fresh-past, fresh-reversed, fresh-outside, fresh-small, fresh-cut, fresh-done, fresh-stopped}
+use Rattle.hbc_io.specs.Answer.{refuses}
+use Rattle.hbc_function.proofs.Laws.{fresh-by, fresh-long, fresh-past, fresh-reversed, fresh-outside, fresh-small, fresh-cut, fresh-done, fresh-stopped}
 use borrow.Author.Needs.{needs}
 use Rattle.hbc_function.proofs.refresh_functions.Statement.{statement}
 use Rattle.hbc_function.proofs.refresh_functions.Tie as tie

@@ -4,8 +4,8 @@ use native.Mathlib.Omega.{arith}
 use lib.Dec.{leb}
 use borrow.Author.Tests.{le-leb}
 use Rattle.hbc_header.specs.Header.{functionAt}
-use Rattle.hbc_function.specs.Laws.{Put, put-more, put-done}
-use Rattle.hbc_function.specs.Passes.{put-from}
+use Rattle.hbc_function.proofs.Laws.{Put, put-more, put-done}
+use Rattle.hbc_function.proofs.Passes.{put-from}
 use Rattle.hbc_function.proofs.write_rows.Statement.{statement}
 use Rattle.hbc_function.proofs.write_rows.Tie as tie
 

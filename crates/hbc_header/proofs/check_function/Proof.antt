@@ -1,7 +1,7 @@
 use mathlib.Core.Path.{ap, _∙_}
 use native.Mathlib.Omega.{arith}
-use Rattle.hbc_header.specs.Answer.{refuses, asked}
-use Rattle.hbc_header.specs.Laws.{read-long, read-past, read-at, is-legacy, is-modern}
+use Rattle.hbc_io.specs.Answer.{refuses, asked}
+use Rattle.hbc_header.proofs.Laws.{read-long, read-past, read-at, is-legacy, is-modern}
 use borrow.Author.Needs.{needs}
 use Rattle.hbc_header.proofs.check_function.Statement.{statement}
 use Rattle.hbc_header.proofs.check_function.Tie as tie

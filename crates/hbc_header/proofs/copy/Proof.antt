@@ -1,9 +1,9 @@
-use Rattle.hbc_header.specs.Copy.{front-length, front-all, front-none}
+use Rattle.hbc_header.proofs.Copies.{front-length, front-all, front-none}
 use borrow.Author.Needs.{needs}
 use Prim.Native.Nat.{_≤_, _-_}
 use native.Mathlib.Omega.{arith}
 use lib.ListN.{length}
-use Rattle.hbc_header.specs.Copy.{Fronted, front-more}
+use Rattle.hbc_header.proofs.Copies.{Fronted, front-more}
 use Rattle.hbc_header.proofs.copy.Statement.{statement}
 use Rattle.hbc_header.proofs.copy.Tie as tie
 

@@ -1,6 +1,6 @@
 use mathlib.Core.Path.{_∙_}
 use native.Mathlib.Omega.{arith}
-use Rattle.hbc_header.specs.Laws.{in-long, in-past, in-file, ground-legacy, ground-modern}
+use Rattle.hbc_header.proofs.Laws.{in-long, in-past, in-file, ground-legacy, ground-modern}
 use borrow.Author.Needs.{needs}
 use Rattle.hbc_header.proofs.function_ground.Statement.{statement}
 use Rattle.hbc_header.proofs.function_ground.Tie as tie

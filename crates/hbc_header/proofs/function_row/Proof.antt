@@ -3,9 +3,9 @@ use borrow.Author.Needs.{needs}
 use mathlib.Core.Path.{ap, _∙_}
 use native.Mathlib.Omega.{arith}
 use Rattle.hbc_header.specs.declared.Record.{Record}
-use Rattle.hbc_header.specs.Answer.{Answer}
+use Rattle.hbc_io.specs.Answer.{Answer}
 use Rattle.hbc_header.specs.Row.{rowOf}
-use Rattle.hbc_header.specs.Laws.{into-none, into-refused, into-row, read-long, read-past, read-at, is-legacy, is-modern}
+use Rattle.hbc_header.proofs.Laws.{into-none, into-refused, into-row, read-long, read-past, read-at, is-legacy, is-modern}
 use Rattle.hbc_header.proofs.function_row.Statement.{statement}
 use Rattle.hbc_header.proofs.function_row.Tie as tie
 

@@ -1,5 +1,5 @@
 use mathlib.Core.Path.{_∙_}
-use Rattle.hbc_header_ground.specs.Laws.{meets-by}
+use Rattle.hbc_header_ground.proofs.Laws.{meets-by}
 use borrow.Author.Needs.{needs}
 use Rattle.hbc_header_ground.proofs.function_meets.Statement.{statement}
 use Rattle.hbc_header_ground.proofs.function_meets.Tie as tie

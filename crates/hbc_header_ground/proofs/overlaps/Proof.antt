@@ -1,5 +1,5 @@
 use native.Mathlib.Omega.{arith}
-use Rattle.hbc_header_ground.specs.Laws.{apart, shares}
+use Rattle.hbc_header_ground.proofs.Laws.{apart, shares}
 use borrow.Author.Needs.{needs}
 use Rattle.hbc_header_ground.proofs.overlaps.Statement.{statement}
 use Rattle.hbc_header_ground.proofs.overlaps.Tie as tie

@@ -1,4 +1,4 @@
-use Rattle.hbc_parsing_handlers.specs.Laws.{Counted, counted-first, counted-more, counted-done}
+use Rattle.hbc_parsing_handlers.proofs.Laws.{Counted, counted-first, counted-more, counted-done}
 use Prim.Native.Nat.{_-_, _≤_}
 use native.Mathlib.Omega.{arith}
 use borrow.Author.Needs.{needs}

@@ -1,4 +1,4 @@
-use Rattle.hbc_parsing_handlers.specs.Laws.{is-long, is-few, is-small, is-read}
+use Rattle.hbc_parsing_handlers.proofs.Laws.{is-long, is-few, is-small, is-read}
 use native.Mathlib.Omega.{arith}
 use borrow.Author.Needs.{needs}
 use Rattle.hbc_parsing_handlers.proofs.read_handlers.Statement.{statement}

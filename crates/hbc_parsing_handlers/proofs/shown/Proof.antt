@@ -5,7 +5,7 @@ use Rattle.hbc_parsing_handlers.specs.declared.Why.{Why}
 use Rattle.hbc_parsing_handlers.specs.declared.Why.the-variants as w
 use Rattle.hbc_parsing_handlers.specs.Why.{table, shownBy}
 use Rattle.hbc_parsing_handlers.proofs.Why.{the-type}
-use Rattle.hbc_parsing_handlers.specs.Laws.{found-is}
+use Rattle.hbc_parsing_handlers.proofs.Laws.{found-is}
 use mathlib.Core.Path.{_≡_, refl, sym, _∙_}
 use borrow.Author.Needs.{needs}
 use Rattle.hbc_parsing_handlers.proofs.shown.Statement.{statement}

@@ -1,4 +1,4 @@
-use Rattle.hbc_parsing_handlers.specs.Laws.{no-room, count-zero, count-high, triple-cut, all-there}
+use Rattle.hbc_parsing_handlers.proofs.Laws.{no-room, count-zero, count-high, triple-cut, all-there}
 use native.Mathlib.Omega.{arith}
 use borrow.Author.Needs.{needs}
 use Rattle.hbc_parsing_handlers.proofs.table_at.Statement.{statement}

@@ -1,6 +1,6 @@
 use mathlib.Core.Path.{refl}
-use Rattle.hbc_parsing_handlers.specs.Laws.{flag-clear, info-zero, info-past, at-table, no-room, rounds-past}
-use Rattle.hbc_io.specs.Answers.{ofMoved}
+use Rattle.hbc_parsing_handlers.proofs.Laws.{flag-clear, info-zero, info-past, at-table, no-room, rounds-past}
+use Rattle.hbc_io.specs.Answers.{saysMoved}
 use Rattle.hbc_io.proofs.Reading.{found}
 use Rattle.hbc_io.proofs.Aligns.{aligned}
 use native.Mathlib.Omega.{arith}
@@ -27,16 +27,16 @@ enum-known-c : tie.Need-enum-known-c
 enum-known-c c = search needs
 
 table-at-requires : tie.Need-table-at-requires
-table-at-requires c κs = (aligned _ _ _ _ (found ofMoved (c .before .before .before .align .ensures) (c .before .c .given .1)) .1, omega arith)
+table-at-requires c κs = (aligned _ _ _ _ (found saysMoved (c .before .before .before .align .ensures) (c .before .c .given .1)) .1, omega arith)
 
 enum-told : tie.Need-enum-told
 enum-told c = search needs
 
 returns-4 : tie.Need-returns-4
-returns-4 c = at-table _ _ _ (c .before .before .before .before .before .before .before .before .field-of .ensures) (c .before .before .before .before .before .before .before .if1 .left) (omega arith) (omega arith) (aligned _ _ _ _ (found ofMoved (c .before .before .before .before .align .ensures) (c .before .before .c .given .1)) .0) (c .table-at .ensures)
+returns-4 c = at-table _ _ _ (c .before .before .before .before .before .before .before .before .field-of .ensures) (c .before .before .before .before .before .before .before .if1 .left) (omega arith) (omega arith) (aligned _ _ _ _ (found saysMoved (c .before .before .before .before .align .ensures) (c .before .before .c .given .1)) .0) (c .table-at .ensures)
 
 returns-5 : tie.Need-returns-5
-returns-5 c = at-table _ _ _ (c .before .before .before .before .before .before .field-of .ensures) (c .before .before .before .before .before .if1 .left) (omega arith) (omega arith) refl (no-room _ _ (omega (arith, rounds-past _ _ _ _ _ (omega arith) (omega arith) (omega arith) (found ofMoved (c .before .before .align .ensures) (c .enum-told .given .1)))))
+returns-5 c = at-table _ _ _ (c .before .before .before .before .before .before .field-of .ensures) (c .before .before .before .before .before .if1 .left) (omega arith) (omega arith) refl (no-room _ _ (omega (arith, rounds-past _ _ _ _ _ (omega arith) (omega arith) (omega arith) (found saysMoved (c .before .before .align .ensures) (c .enum-told .given .1)))))
 
 pub why-at-spec : {M : Type 1} → statement M
 why-at-spec =

@@ -1,4 +1,4 @@
-use Rattle.hbc_parsing_handlers.specs.Laws.{Written, written-first, writes-length, writes-more, writes-done}
+use Rattle.hbc_parsing_handlers.proofs.Laws.{Written, written-first, writes-length, writes-more, writes-done}
 use Prim.Native.Nat.{_-_, _≤_}
 use native.Mathlib.Omega.{arith}
 use borrow.Author.Needs.{needs}

@@ -1,5 +1,5 @@
 use Rattle.hbc_rows.specs.Rows.{putRows}
-use Rattle.hbc_rows.specs.Laws.{putRows-length, putRows-more, putRows-done}
+use Rattle.hbc_rows.proofs.Laws.{putRows-length, putRows-more, putRows-done}
 use Rattle.hbc_parsing_handlers.specs.Handlers.{handlerRow}
 use denote.Ref.{now}
 use mathlib.Core.Path.{_≡_, refl}

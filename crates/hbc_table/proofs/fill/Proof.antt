@@ -1,5 +1,5 @@
 use Rattle.hbc_table.specs.Table.{wordsFrom}
-use Rattle.hbc_rows.specs.Laws.{filled-more, filled-length, filled-done}
+use Rattle.hbc_rows.proofs.Laws.{filled-more, filled-length, filled-done}
 use Rattle.hbc_rows.specs.Rows.{filled}
 use Prim.Native.Nat.{_≤_, _-_}
 use mathlib.Core.Path.{_≡_, refl}

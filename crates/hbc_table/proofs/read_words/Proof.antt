@@ -1,4 +1,4 @@
-use Rattle.hbc_table.specs.Laws.{is-long, is-past, is-small, is-cut, is-read, div-fits}
+use Rattle.hbc_table.proofs.Laws.{is-long, is-past, is-small, is-cut, is-read, div-fits}
 use native.Mathlib.Omega.{arith}
 use borrow.Author.Needs.{needs}
 use Rattle.hbc_table.proofs.read_words.Statement.{statement}

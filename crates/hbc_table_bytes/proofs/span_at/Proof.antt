@@ -1,5 +1,5 @@
 use Rattle.hbc_table_bytes.specs.StringBytes.{spanAt}
-use Rattle.hbc_rows.specs.Laws.{test-eq, test-ne}
+use Rattle.hbc_rows.proofs.Laws.{test-eq, test-ne}
 use borrow.Author.Tests.{lt-ltb, le-ltb}
 use borrow.Author.Needs.{needs}
 use Rattle.hbc_table_bytes.proofs.span_at.Statement.{statement}

@@ -1,7 +1,7 @@
 use borrow.Author.Needs.{needs}
 use Prim.Native.Nat.{_≤_, _-_}
 use mathlib.Core.Path.{_∙_}
-use Rattle.hbc_table_strings.specs.Laws.{Clear, clear-first, clear-stops, clear-goes, clear-done}
+use Rattle.hbc_table_strings.proofs.Laws.{Clear, clear-first, clear-stops, clear-goes, clear-done}
 use native.Mathlib.Omega.{arith}
 use Rattle.hbc_table_strings.proofs.check.Statement.{statement}
 use Rattle.hbc_table_strings.proofs.check.Tie as tie

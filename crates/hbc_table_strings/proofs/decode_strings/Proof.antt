@@ -1,4 +1,4 @@
-use Rattle.hbc_table_strings.specs.Laws.{is-long, is-small, is-read, is-lacking}
+use Rattle.hbc_table_strings.proofs.Laws.{is-long, is-small, is-read, is-lacking}
 use native.Mathlib.Omega.{arith}
 use borrow.Author.Needs.{needs}
 use Rattle.hbc_table_strings.proofs.decode_strings.Statement.{statement}

@@ -1,5 +1,5 @@
 use Rattle.hbc_table_strings.specs.Kinds.{movedOn}
-use Rattle.hbc_table_strings.specs.Laws.{held-run}
+use Rattle.hbc_table_strings.proofs.Laws.{held-run}
 use native.Mathlib.Omega.{arith}
 use borrow.Author.Tests.{eq-eqb, ne-eqb}
 use borrow.Author.Needs.{needs}

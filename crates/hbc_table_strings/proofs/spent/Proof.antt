@@ -1,4 +1,4 @@
-use Rattle.hbc_table_strings.specs.Laws.{spent-none}
+use Rattle.hbc_table_strings.proofs.Laws.{spent-none}
 use borrow.Author.Needs.{needs}
 use Rattle.hbc_table_strings.proofs.spent.Statement.{statement}
 use Rattle.hbc_table_strings.proofs.spent.Tie as tie

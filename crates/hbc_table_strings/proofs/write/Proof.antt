@@ -1,6 +1,6 @@
 use borrow.Author.Needs.{needs}
 use Prim.Native.Nat.{_≤_, _-_}
-use Rattle.hbc_table_strings.specs.Laws.{Written, written-first, written-more, written-length, written-done}
+use Rattle.hbc_table_strings.proofs.Laws.{Written, written-first, written-more, written-length, written-done}
 use native.Mathlib.Omega.{arith}
 use Rattle.hbc_table_strings.proofs.write.Statement.{statement}
 use Rattle.hbc_table_strings.proofs.write.Tie as tie

@@ -1,7 +1,7 @@
 use mir.Syntax.{w32}
 use mir.ValLaws.{toZ-ofZ}
 use Rattle.hbc_io.proofs.Reading.{found}
-use Rattle.hbc_buffer_literal.specs.Literal.{ofLiteral}
+use Rattle.hbc_buffer_literal.specs.Literal.{saysLiteral}
 use Rattle.hbc_c.proofs.Buffers.{literal-told, literal-untold}
 use borrow.Author.Needs.{needs}
 use Rattle.hbc_c.proofs.buffer.hbc_read_literal.Statement.{statement}
@@ -38,25 +38,25 @@ code-requires : tie.Need-code-requires
 code-requires c κs = search needs
 
 returns : tie.Need-returns
-returns c = literal-told (found ofLiteral (c .before .before .before .before .before .read-literal .ensures) (c .before .before .before .v .given .1)) (c .enum-told .given .1)
+returns c = literal-told (found saysLiteral (c .before .before .before .before .before .read-literal .ensures) (c .before .before .before .v .given .1)) (c .enum-told .given .1)
 
 returns-2 : tie.Need-returns-2
-returns-2 c = literal-told (found ofLiteral (c .before .before .before .before .before .before .before .read-literal .ensures) (c .before .before .before .before .before .v .given .1)) (rw (c .if1 .taken) at (c .before .before .v2 .given .1))
+returns-2 c = literal-told (found saysLiteral (c .before .before .before .before .before .before .before .read-literal .ensures) (c .before .before .before .before .before .v .given .1)) (rw (c .if1 .taken) at (c .before .before .v2 .given .1))
 
 returns-3 : tie.Need-returns-3
-returns-3 c = literal-told (found ofLiteral (c .before .before .before .before .before .before .before .read-literal .ensures) (c .before .before .before .before .before .v .given .1)) (rw (c .if1 .left) at (c .before .before .v2 .given .1))
+returns-3 c = literal-told (found saysLiteral (c .before .before .before .before .before .before .before .read-literal .ensures) (c .before .before .before .before .before .v .given .1)) (rw (c .if1 .left) at (c .before .before .v2 .given .1))
 
 returns-4 : tie.Need-returns-4
-returns-4 c = literal-told (found ofLiteral (c .before .before .before .before .before .before .read-literal .ensures) (c .before .before .before .before .v .given .1)) (c .before .v3 .given .1)
+returns-4 c = literal-told (found saysLiteral (c .before .before .before .before .before .before .read-literal .ensures) (c .before .before .before .before .v .given .1)) (c .before .v3 .given .1)
 
 returns-5 : tie.Need-returns-5
-returns-5 c = literal-told (found ofLiteral (c .before .before .before .before .before .before .read-literal .ensures) (c .before .before .before .before .v .given .1)) (c .before .v4 .given .1)
+returns-5 c = literal-told (found saysLiteral (c .before .before .before .before .before .before .read-literal .ensures) (c .before .before .before .before .v .given .1)) (c .before .v4 .given .1)
 
 returns-6 : tie.Need-returns-6
-returns-6 c = rw (c .word-of .ensures, toZ-ofZ w32 (c .before .before .v5 .given .0 .0) (search needs)) (literal-told (found ofLiteral (c .before .before .before .before .before .before .before .read-literal .ensures) (c .before .before .before .before .before .v .given .1)) (c .before .before .v5 .given .1))
+returns-6 c = rw (c .word-of .ensures, toZ-ofZ w32 (c .before .before .v5 .given .0 .0) (search needs)) (literal-told (found saysLiteral (c .before .before .before .before .before .before .before .read-literal .ensures) (c .before .before .before .before .before .v .given .1)) (c .before .before .v5 .given .1))
 
 returns-7 : tie.Need-returns-7
-returns-7 c = literal-untold (found ofLiteral (c .before .before .before .before .read-literal .ensures) (c .before .before .r .given .1)) (c .code .ensures)
+returns-7 c = literal-untold (found saysLiteral (c .before .before .before .before .read-literal .ensures) (c .before .before .r .given .1)) (c .code .ensures)
 
 pub hbc-read-literal-spec : {M : Type 1} → statement M
 hbc-read-literal-spec =

@@ -1,7 +1,7 @@
 use mathlib.Core.Path.{ap, _∙_}
 use Rattle.hbc_c.specs.Code.{codeOf}
 use Rattle.hbc_c.specs.Function.{codeIn, truth}
-use Rattle.hbc_c.specs.FunctionLaws.{named-legacy, named-modern, named-none}
+use Rattle.hbc_c.proofs.FunctionLaws.{named-legacy, named-modern, named-none}
 use borrow.Author.Needs.{needs}
 use Rattle.hbc_c.proofs.function.hbc_function_meets.Statement.{statement}
 use Rattle.hbc_c.proofs.function.hbc_function_meets.Tie as tie

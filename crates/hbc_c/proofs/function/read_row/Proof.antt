@@ -1,7 +1,7 @@
 use mathlib.Core.Path.{ap, _∙_}
 use native.Mathlib.Omega.{arith}
 use Rattle.hbc_c.specs.Code.{codeOf}
-use Rattle.hbc_c.specs.FunctionLaws.{row-long, row-past, row-small, row-read, row-stopped}
+use Rattle.hbc_c.proofs.FunctionLaws.{row-long, row-past, row-small, row-read, row-stopped}
 use borrow.Author.Needs.{needs}
 use Rattle.hbc_c.proofs.function.read_row.Statement.{statement}
 use Rattle.hbc_c.proofs.function.read_row.Tie as tie

@@ -1,6 +1,6 @@
 use mathlib.Core.Path.{ap, sym, _∙_}
 use Rattle.hbc_c.specs.Function.{codeIn, one}
-use Rattle.hbc_header.specs.Answer.{ofReading}
+use Rattle.hbc_header.specs.Answer.{saysReading}
 use borrow.Author.Needs.{needs}
 use Rattle.hbc_c.proofs.function.read_table.Statement.{statement}
 use Rattle.hbc_c.proofs.function.read_table.Tie as tie
@@ -21,13 +21,13 @@ same-length : tie.Need-same-length
 same-length c = search needs
 
 returns : tie.Need-returns
-returns c = record { says = ap (codeIn (one _)) (sym (ap ofReading (c .enum-told .given .1)) ∙ c .before .before .before .before .read-functions .ensures .says); leaves = c .before .before .before .before .read-functions .ensures .leaves }
+returns c = record { says = ap (codeIn (one _)) (sym (ap saysReading (c .enum-told .given .1)) ∙ c .before .before .before .before .read-functions .ensures .says); leaves = c .before .before .before .before .read-functions .ensures .leaves }
 
 same-length-2 : tie.Need-same-length-2
 same-length-2 c = search needs
 
 returns-2 : tie.Need-returns-2
-returns-2 c = record { says = c .code .ensures ∙ ap (codeIn (one _)) (sym (ap ofReading (c .before .before .r .given .1)) ∙ c .before .before .before .before .before .before .read-functions .ensures .says); leaves = c .before .before .before .before .before .before .read-functions .ensures .leaves }
+returns-2 c = record { says = c .code .ensures ∙ ap (codeIn (one _)) (sym (ap saysReading (c .before .before .r .given .1)) ∙ c .before .before .before .before .before .before .read-functions .ensures .says); leaves = c .before .before .before .before .before .before .read-functions .ensures .leaves }
 
 pub read-table-spec : {M : Type 1} → statement M
 read-table-spec =

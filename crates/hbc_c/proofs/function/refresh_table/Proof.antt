@@ -1,7 +1,7 @@
 use mathlib.Core.Path.{ap, sym, _∙_}
 use Prim.Native.Nat.{ℕ}
 use Rattle.hbc_c.specs.Function.{codeIn}
-use Rattle.hbc_function.specs.Refresh.{ofRefreshed}
+use Rattle.hbc_function.specs.Refresh.{saysRefreshed}
 use borrow.Author.Needs.{needs}
 use Rattle.hbc_c.proofs.function.refresh_table.Statement.{statement}
 use Rattle.hbc_c.proofs.function.refresh_table.Tie as tie
@@ -25,13 +25,13 @@ same-length : tie.Need-same-length
 same-length c = search needs
 
 returns : tie.Need-returns
-returns c = record { says = ap (codeIn (λ (n : ℕ). n)) (sym (ap ofRefreshed (c .before .n .given .1)) ∙ c .before .before .before .before .before .refresh-functions .ensures .says); leaves = c .before .before .before .before .before .refresh-functions .ensures .leaves }
+returns c = record { says = ap (codeIn (λ (n : ℕ). n)) (sym (ap saysRefreshed (c .before .n .given .1)) ∙ c .before .before .before .before .before .refresh-functions .ensures .says); leaves = c .before .before .before .before .before .refresh-functions .ensures .leaves }
 
 same-length-2 : tie.Need-same-length-2
 same-length-2 c = search needs
 
 returns-2 : tie.Need-returns-2
-returns-2 c = record { says = c .code .ensures ∙ ap (codeIn (λ (n : ℕ). n)) (sym (ap ofRefreshed (c .before .before .r .given .1)) ∙ c .before .before .before .before .before .before .refresh-functions .ensures .says); leaves = c .before .before .before .before .before .before .refresh-functions .ensures .leaves }
+returns-2 c = record { says = c .code .ensures ∙ ap (codeIn (λ (n : ℕ). n)) (sym (ap saysRefreshed (c .before .before .r .given .1)) ∙ c .before .before .before .before .before .before .refresh-functions .ensures .says); leaves = c .before .before .before .before .before .before .refresh-functions .ensures .leaves }
 
 pub refresh-table-spec : {M : Type 1} → statement M
 refresh-table-spec =

@@ -1,6 +1,6 @@
 use mir.Syntax.{w32}
 use mir.ValLaws.{toZ-ofZ}
-use Rattle.hbc_io.specs.Answers.{ofI32}
+use Rattle.hbc_io.specs.Answers.{saysI32}
 use Rattle.hbc_io.proofs.Reading.{found}
 use Rattle.hbc_c.proofs.Tolds.{told-got, told-refused}
 use borrow.Author.Needs.{needs}
@@ -20,10 +20,10 @@ code-requires : tie.Need-code-requires
 code-requires c κs = search needs
 
 returns : tie.Need-returns
-returns c = rw (toZ-ofZ w32 (c .before .v .given .0 .0) (search needs)) (told-got (found ofI32 (c .before .before .before .read-i32 .ensures) (c .before .v .given .1)))
+returns c = rw (toZ-ofZ w32 (c .before .v .given .0 .0) (search needs)) (told-got (found saysI32 (c .before .before .before .read-i32 .ensures) (c .before .v .given .1)))
 
 returns-2 : tie.Need-returns-2
-returns-2 c = told-refused (found ofI32 (c .before .before .before .before .read-i32 .ensures) (c .before .before .r .given .1)) (c .code .ensures)
+returns-2 c = told-refused (found saysI32 (c .before .before .before .before .read-i32 .ensures) (c .before .before .r .given .1)) (c .code .ensures)
 
 pub hbc-read-i32-spec : {M : Type 1} → statement M
 hbc-read-i32-spec =

@@ -1,6 +1,6 @@
 use mir.Syntax.{w8}
 use mir.ValLaws.{toZ-ofZ}
-use Rattle.hbc_io.specs.Answers.{ofI8}
+use Rattle.hbc_io.specs.Answers.{saysI8}
 use Rattle.hbc_io.proofs.Reading.{found}
 use Rattle.hbc_c.proofs.Tolds.{told-got, told-refused}
 use borrow.Author.Needs.{needs}
@@ -20,10 +20,10 @@ code-requires : tie.Need-code-requires
 code-requires c κs = search needs
 
 returns : tie.Need-returns
-returns c = rw (toZ-ofZ w8 (c .before .v .given .0 .0) (search needs)) (told-got (found ofI8 (c .before .before .before .read-i8 .ensures) (c .before .v .given .1)))
+returns c = rw (toZ-ofZ w8 (c .before .v .given .0 .0) (search needs)) (told-got (found saysI8 (c .before .before .before .read-i8 .ensures) (c .before .v .given .1)))
 
 returns-2 : tie.Need-returns-2
-returns-2 c = told-refused (found ofI8 (c .before .before .before .before .read-i8 .ensures) (c .before .before .r .given .1)) (c .code .ensures)
+returns-2 c = told-refused (found saysI8 (c .before .before .before .before .read-i8 .ensures) (c .before .before .r .given .1)) (c .code .ensures)
 
 pub hbc-read-i8-spec : {M : Type 1} → statement M
 hbc-read-i8-spec =

@@ -1,6 +1,6 @@
 use mir.Syntax.{w64}
 use mir.ValLaws.{toZ-ofZ}
-use Rattle.hbc_io_leb.specs.Answers.{ofSleb, slebOf}
+use Rattle.hbc_io_leb.specs.Answers.{saysSleb, slebOf}
 use Rattle.hbc_io_leb.specs.declared.Sleb.{Sleb}
 use Rattle.hbc_io.proofs.Reading.{found}
 use Rattle.hbc_c.proofs.Tolds.{told-got, told-refused, number-of}
@@ -21,10 +21,10 @@ code-requires : tie.Need-code-requires
 code-requires c κs = search needs
 
 returns : tie.Need-returns
-returns c = rw (toZ-ofZ w64 (c .before .before .v .given .0 .0 .value) (search needs)) (told-got (number-of slebOf (λ (u : Sleb). u .value) _ _ (found ofSleb (c .before .before .before .before .read-sleb128 .ensures) (c .before .before .v .given .1))))
+returns c = rw (toZ-ofZ w64 (c .before .before .v .given .0 .0 .value) (search needs)) (told-got (number-of slebOf (λ (u : Sleb). u .value) _ _ (found saysSleb (c .before .before .before .before .read-sleb128 .ensures) (c .before .before .v .given .1))))
 
 returns-2 : tie.Need-returns-2
-returns-2 c = told-refused (number-of slebOf (λ (u : Sleb). u .value) _ _ (found ofSleb (c .before .before .before .before .read-sleb128 .ensures) (c .before .before .r .given .1))) (c .code .ensures)
+returns-2 c = told-refused (number-of slebOf (λ (u : Sleb). u .value) _ _ (found saysSleb (c .before .before .before .before .read-sleb128 .ensures) (c .before .before .r .given .1))) (c .code .ensures)
 
 pub hbc-read-sleb128-spec : {M : Type 1} → statement M
 hbc-read-sleb128-spec =

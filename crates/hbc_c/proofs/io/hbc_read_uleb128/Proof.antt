@@ -1,4 +1,4 @@
-use Rattle.hbc_io_leb.specs.Answers.{ofUleb, ulebOf}
+use Rattle.hbc_io_leb.specs.Answers.{saysUleb, ulebOf}
 use Rattle.hbc_io_leb.specs.declared.Uleb.{Uleb}
 use Rattle.hbc_io.proofs.Reading.{found}
 use Rattle.hbc_c.proofs.Tolds.{told-got, told-refused, number-of}
@@ -19,10 +19,10 @@ code-requires : tie.Need-code-requires
 code-requires c κs = search needs
 
 returns : tie.Need-returns
-returns c = told-got (number-of ulebOf (λ (u : Uleb). u .value) _ _ (found ofUleb (c .before .before .before .read-uleb128 .ensures) (c .before .v .given .1)))
+returns c = told-got (number-of ulebOf (λ (u : Uleb). u .value) _ _ (found saysUleb (c .before .before .before .read-uleb128 .ensures) (c .before .v .given .1)))
 
 returns-2 : tie.Need-returns-2
-returns-2 c = told-refused (number-of ulebOf (λ (u : Uleb). u .value) _ _ (found ofUleb (c .before .before .before .before .read-uleb128 .ensures) (c .before .before .r .given .1))) (c .code .ensures)
+returns-2 c = told-refused (number-of ulebOf (λ (u : Uleb). u .value) _ _ (found saysUleb (c .before .before .before .before .read-uleb128 .ensures) (c .before .before .r .given .1))) (c .code .ensures)
 
 pub hbc-read-uleb128-spec : {M : Type 1} → statement M
 hbc-read-uleb128-spec =

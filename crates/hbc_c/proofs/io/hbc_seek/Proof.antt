@@ -1,4 +1,4 @@
-use Rattle.hbc_io.specs.Answers.{ofMoved}
+use Rattle.hbc_io.specs.Answers.{saysMoved}
 use Rattle.hbc_io.proofs.Reading.{found}
 use Rattle.hbc_c.proofs.Tolds.{moved-to, moved-not}
 use borrow.Author.Needs.{needs}
@@ -18,10 +18,10 @@ code-requires : tie.Need-code-requires
 code-requires c κs = search needs
 
 returns : tie.Need-returns
-returns c = moved-to (found ofMoved (c .before .before .before .seek .ensures) (c .before .next .given .1))
+returns c = moved-to (found saysMoved (c .before .before .before .seek .ensures) (c .before .next .given .1))
 
 returns-2 : tie.Need-returns-2
-returns-2 c = moved-not (found ofMoved (c .before .before .before .before .seek .ensures) (c .before .before .r .given .1)) (c .code .ensures)
+returns-2 c = moved-not (found saysMoved (c .before .before .before .before .seek .ensures) (c .before .before .r .given .1)) (c .code .ensures)
 
 pub hbc-seek-spec : {M : Type 1} → statement M
 hbc-seek-spec =

@@ -1,4 +1,4 @@
-use Rattle.hbc_rows.specs.Laws.{putRow-length}
+use Rattle.hbc_rows.proofs.Laws.{putRow-length}
 use borrow.Author.Needs.{needs}
 use Rattle.hbc_c.proofs.parsing.put_sections.Statement.{statement}
 use Rattle.hbc_c.proofs.parsing.put_sections.Tie as tie

@@ -1,7 +1,7 @@
 use mathlib.Core.Path.{sym, _∙_}
 use native.Mathlib.Omega.{arith}
 use Rattle.hbc_header.specs.Header.{legacyGround}
-use Rattle.hbc_header.specs.Laws.{ground-cut, ground-own, ground-large, legacy-ground}
+use Rattle.hbc_header.proofs.Laws.{ground-cut, ground-own, ground-large, legacy-ground}
 use borrow.Author.Needs.{needs}
 use Rattle.hbc_header.proofs.find.legacy_ground.Statement.{statement}
 use Rattle.hbc_header.proofs.find.legacy_ground.Tie as tie

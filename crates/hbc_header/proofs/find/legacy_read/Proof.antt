@@ -2,8 +2,8 @@ use mathlib.Core.Path.{ap, _∙_}
 use native.Mathlib.Omega.{arith}
 use Rattle.hbc_header.specs.declared.Legacy.{Legacy}
 use Rattle.hbc_header.specs.declared.Record.the-variants as rec
-use Rattle.hbc_header.specs.Answer.{gives, refuses}
-use Rattle.hbc_header.specs.Laws.{legacy-here, legacy-there, legacy-is}
+use Rattle.hbc_io.specs.Answer.{gives, refuses}
+use Rattle.hbc_header.proofs.Laws.{legacy-here, legacy-there, legacy-is}
 use borrow.Author.Needs.{needs}
 use Rattle.hbc_header.proofs.find.legacy_read.Statement.{statement}
 use Rattle.hbc_header.proofs.find.legacy_read.Tie as tie

@@ -3,9 +3,9 @@ use borrow.Author.Needs.{needs}
 use mathlib.Core.Path.{ap, _∙_}
 use native.Mathlib.Omega.{arith}
 use Rattle.hbc_header.specs.declared.Record.{Record}
-use Rattle.hbc_header.specs.Answer.{Answer}
+use Rattle.hbc_io.specs.Answer.{Answer}
 use Rattle.hbc_header.specs.Row.{legacyWords, rowOf}
-use Rattle.hbc_header.specs.Laws.{legacy-here, legacy-there, legacy-is}
+use Rattle.hbc_header.proofs.Laws.{legacy-here, legacy-there, legacy-is}
 use Rattle.hbc_header.proofs.find.legacy_row.Statement.{statement}
 use Rattle.hbc_header.proofs.find.legacy_row.Tie as tie
 

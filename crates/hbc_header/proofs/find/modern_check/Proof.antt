@@ -1,6 +1,6 @@
 use mathlib.Core.Path.{ap, _∙_}
-use Rattle.hbc_header.specs.Answer.{refuses, asked}
-use Rattle.hbc_header.specs.Laws.{modern-is}
+use Rattle.hbc_io.specs.Answer.{refuses, asked}
+use Rattle.hbc_header.proofs.Laws.{modern-is}
 use borrow.Author.Needs.{needs}
 use Rattle.hbc_header.proofs.find.modern_check.Statement.{statement}
 use Rattle.hbc_header.proofs.find.modern_check.Tie as tie

@@ -1,7 +1,7 @@
 use mathlib.Core.Path.{sym, _∙_}
 use native.Mathlib.Omega.{arith}
 use Rattle.hbc_header.specs.Header.{modernGround}
-use Rattle.hbc_header.specs.Laws.{ground-cut, ground-own, ground-large, modern-ground}
+use Rattle.hbc_header.proofs.Laws.{ground-cut, ground-own, ground-large, modern-ground}
 use borrow.Author.Needs.{needs}
 use Rattle.hbc_header.proofs.find.modern_ground.Statement.{statement}
 use Rattle.hbc_header.proofs.find.modern_ground.Tie as tie

@@ -1,7 +1,7 @@
 use mathlib.Core.Path.{ap, _∙_}
 use native.Mathlib.Omega.{arith}
 use Rattle.hbc_header.specs.Record.{modernOf}
-use Rattle.hbc_header.specs.Laws.{joined}
+use Rattle.hbc_header.proofs.Laws.{joined}
 use borrow.Author.Needs.{needs}
 use Rattle.hbc_header.proofs.find.modern_here.Statement.{statement}
 use Rattle.hbc_header.proofs.find.modern_here.Tie as tie

@@ -2,8 +2,8 @@ use mathlib.Core.Path.{ap, _∙_}
 use native.Mathlib.Omega.{arith}
 use Rattle.hbc_header.specs.declared.Modern.{Modern}
 use Rattle.hbc_header.specs.declared.Record.the-variants as rec
-use Rattle.hbc_header.specs.Answer.{gives, refuses}
-use Rattle.hbc_header.specs.Laws.{modern-here, modern-there, modern-is}
+use Rattle.hbc_io.specs.Answer.{gives, refuses}
+use Rattle.hbc_header.proofs.Laws.{modern-here, modern-there, modern-is}
 use borrow.Author.Needs.{needs}
 use Rattle.hbc_header.proofs.find.modern_read.Statement.{statement}
 use Rattle.hbc_header.proofs.find.modern_read.Tie as tie

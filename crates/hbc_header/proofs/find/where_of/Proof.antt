@@ -1,6 +1,6 @@
 use native.Mathlib.Omega.{arith}
 use Rattle.hbc_header.specs.Header.{whereOf}
-use Rattle.hbc_header.specs.Laws.{where-past, where-cut, where-in}
+use Rattle.hbc_header.proofs.Laws.{where-past, where-cut, where-in}
 use borrow.Author.Needs.{needs}
 use Rattle.hbc_header.proofs.find.where_of.Statement.{statement}
 use Rattle.hbc_header.proofs.find.where_of.Tie as tie

@@ -1,5 +1,5 @@
 use mathlib.Core.Path.{sym, _∙_}
-use Rattle.hbc_bits.specs.Laws.{field-low, field-high, field-lt}
+use Rattle.hbc_bits.proofs.Laws.{field-low, field-high, field-lt}
 use borrow.Author.Needs.{needs}
 use Rattle.hbc_header.proofs.words.cut.Statement.{statement}
 use Rattle.hbc_header.proofs.words.cut.Tie as tie

@@ -1,0 +1,25 @@
+use native.Mathlib.Omega.{arith}
+use Rattle.hbc_io.specs.Answers.{saysU16}
+use Rattle.hbc_io.proofs.Reading.{found}
+use Rattle.hbc_io.proofs.Plains.{plain-value, plain-there}
+use borrow.Author.Needs.{needs}
+use Rattle.hbc_job.proofs.u16_at.Statement.{statement}
+use Rattle.hbc_job.proofs.u16_at.Tie as tie
+
+read-u16-requires : tie.Need-read-u16-requires
+read-u16-requires c κs = search needs
+
+enum-known-v : tie.Need-enum-known-v
+enum-known-v c = search needs
+
+enum-told : tie.Need-enum-told
+enum-told c = search needs
+
+returns : tie.Need-returns
+returns c = plain-value 2 _ _ (found saysU16 (c .before .before .before .read-u16 .ensures) (c .before .v .given .1))
+
+returns-2 : tie.Need-returns-2
+returns-2 c = absurd (plain-there 2 _ _ (omega arith) (omega arith) (found saysU16 (c .before .before .read-u16 .ensures) (c .enum-told .given .1)))
+
+pub u16-at-spec : {M : Type 1} → statement M
+u16-at-spec = tie.close (tie.spec read-u16-requires enum-known-v enum-told returns returns-2)
