@@ -1,4 +1,4 @@
-// Replays recorded answers of the published Rust on debug sections, from standard input (docs/VECTORS.md).
+// Replays recorded answers of the published Rust on debug sections, from standard input (docs/COMPARISON.md).
 // The fields of a record: offset, words lent in the four tables, the file; then the answer, and every word of strings, scopes, names, callees.
 use hbc_debug::ReadDebug;
 use vectors::Counts;

@@ -1,4 +1,4 @@
-// Replays recorded answers of the published Rust on function tables, from standard input (docs/VECTORS.md).
+// Replays recorded answers of the published Rust on function tables, from standard input (docs/COMPARISON.md).
 // The fields of a record: start, count or number, the span's two ends, words lent, the file; then the answer, and every word lent.
 use hbc_function::Refreshed;
 use hbc_header::Function;

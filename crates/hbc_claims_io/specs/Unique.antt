@@ -1,4 +1,4 @@
--- Each public call's contract, as the checker has it, leaves one answer: two outcomes that both meet it are equal.
+-- docs/FORMAT.md, section 1.6: each public call's contract, as the checker has it, leaves one answer: two outcomes that both meet it are equal.
 use denote.Ref.{now}
 use Rattle.hbc_bits.proofs.bits.Reads as of-bits
 use Rattle.hbc_io.proofs.first.Reads as of-first

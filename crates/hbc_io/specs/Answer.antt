@@ -1,4 +1,4 @@
--- What a call answers, whatever the call: what was asked for, or a refusal's number and place.
+-- docs/FORMAT.md, section 1.1: what a call answers, whatever the call: what was asked for, or a refusal's number and place.
 use Prim.Native.Nat.{ℕ}
 use Rattle.hbc_io.specs.declared.Refusal.{Refusal}
 use Rattle.hbc_io.specs.Outcome.{Outcome, got, refused, refusalAt}

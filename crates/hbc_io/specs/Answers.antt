@@ -1,4 +1,4 @@
--- What each case of an answer of src/ says: the value, or the refusal, and the cursor.
+-- docs/FORMAT.md, section 2.2: what each case of an answer of src/ says: the value, or the refusal, and the cursor.
 use Prim.Native.Nat.{ℕ}
 use lib.IntN.{ℤ}
 use lib.Ieee.{Float}

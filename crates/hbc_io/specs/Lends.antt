@@ -1,4 +1,4 @@
--- What a call promises that answers and is lent words, whatever the call.
+-- docs/FORMAT.md, sections 1.2, 1.4 and 1.6: what a call promises that answers and is lent words, whatever the call.
 use Prim.Native.Nat.{ℕ}
 use mathlib.Core.Path.{_≡_}
 use mathlib.Core.Bool.{Bool, cond}

@@ -1,4 +1,4 @@
--- Plain reads, seek, align and spans, with the refusals in document 01's order. A refused one leaves the cursor.
+-- docs/FORMAT.md, section 2.2: plain reads, seek, align and spans, with the refusals in their order. A refused one leaves the cursor.
 use Prim.Native.Nat.{ℕ, _+_, _-_, _%_}
 use mathlib.Core.List.{List, []}
 use mathlib.Core.Bool.{cond}

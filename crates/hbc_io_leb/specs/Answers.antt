@@ -1,4 +1,4 @@
--- What each case of an answer of src/ says.
+-- docs/FORMAT.md, section 2.3: what each case of an answer of src/ says.
 use mathlib.Core.List.{List}
 use Prim.Native.Nat.{ℕ}
 use Rattle.hbc_io.specs.Outcome.{Outcome, got, refused}

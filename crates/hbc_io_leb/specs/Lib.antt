@@ -1,4 +1,4 @@
 pub mod Leb
 pub mod Answers
 pub mod Signed
-pub mod Groups
+pub mod Private

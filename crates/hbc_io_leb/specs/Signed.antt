@@ -1,4 +1,4 @@
--- Signed LEB128 numbers: tests of one, and the 64 bits that hold it.
+-- docs/FORMAT.md, section 2.3: signed LEB128 numbers: tests of one, and the 64 bits that hold it.
 use Prim.Native.Nat.{ℕ, suc, _-_, _%_, _^_}
 use mathlib.Core.List.{List}
 use mathlib.Core.Bool.{Bool, false}

@@ -4,7 +4,7 @@ ghost use Prim.Native.Nat.{_*_, _^_, _≤_, _<_, min};
 ghost use lib.ListN.{length, getD};
 ghost use Rattle.hbc_io.specs.Outcome.{valued, twos};
 ghost use Rattle.hbc_io_leb.specs.Leb.{lebBytes};
-ghost use Rattle.hbc_io_leb.specs.Groups.{groupsOf, saysGroups, signedBits};
+ghost use Rattle.hbc_io_leb.specs.Private.{groupsOf, saysGroups, signedBits};
 ghost use Rattle.hbc_io_leb.specs.Answers.{ulebOf, slebOf, saysUleb, saysSleb};
 ghost use Rattle.hbc_io_leb.specs.Signed.{slebAt, bitsOf, heldOf, saysHeld};
 use hbc_io::Cursor;

@@ -1,4 +1,4 @@
--- Strings, as spans of the input: ended by a zero byte, or with their length in front.
+-- docs/FORMAT.md, section 2.4: strings, as spans of the input: ended by a zero byte, or with their length in front.
 use Prim.Native.Nat.{ℕ, suc, _+_}
 use mathlib.Core.List.{List, [], _∷_}
 use mathlib.Core.Bool.{cond}

@@ -1,4 +1,4 @@
--- Lent tables of words: one word, words put in front, and rows of any width put at their places, over what is there.
+-- docs/FORMAT.md, section 1.5: lent tables of words: one word, words put in front, and rows of any width put at their places, over what is there.
 use Prim.Native.Nat.{ℕ, zero, suc, _+_, _*_, _/_}
 use mathlib.Core.List.{List}
 use mathlib.Core.Bool.{cond}

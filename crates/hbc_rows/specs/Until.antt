@@ -1,4 +1,4 @@
--- Things read one after the other until one fails.
+-- docs/FORMAT.md, sections 7.3 to 7.5: things read one after the other until one fails.
 use Prim.Native.Nat.{ℕ, zero, suc, _+_}
 use mathlib.Core.Path.{_≡_}
 use mathlib.Core.List.{List, [], _∷_, _++_}

@@ -1,6 +1,6 @@
 // Replays recorded answers: the worked examples of DWARF 5, section 7.6, which stand here, and then the published Rust's, from standard input.
 // A record: what is called, the cursor, an argument of 8 bytes, how many bytes of input and they, the refusal's number (0 for none), the cursor
-// afterwards, and the value in 8 bytes (docs/VECTORS.md).
+// afterwards, and the value in 8 bytes (docs/COMPARISON.md).
 ghost use Prim.Native.Nat.{_≤_, _<_};
 ghost use lib.ListN.{length};
 use hbc_io::Cursor;

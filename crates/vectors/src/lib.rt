@@ -1,5 +1,5 @@
 // What the programs share that replay recorded answers: numbers, bytes and tables of a record, and the count of those that differ.
-// A record is a group, how many bytes follow, and they (docs/VECTORS.md). All reads are total: what is cut reads as 0, or as nothing.
+// A record is a group, how many bytes follow, and they (docs/COMPARISON.md). All reads are total: what is cut reads as 0, or as nothing.
 ghost use mathlib.Core.Path.{_≡_};
 ghost use mathlib.Core.Bool.{_&&_};
 ghost use Prim.Native.Nat.{min};

@@ -1,5 +1,5 @@
 //! Feeds the published Rust and libhbc_c.a the same inputs and compares all that they answer.
-//! docs/VECTORS.md says what is compared and how to run it.
+//! docs/COMPARISON.md says what is compared and how to run it.
 
 use std::process::ExitCode;
 

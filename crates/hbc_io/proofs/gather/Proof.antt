@@ -10,6 +10,7 @@ use Rattle.hbc_io.proofs.Plains.{le-turn, le-room}
 use Rattle.hbc_io.proofs.gather.Statement.{statement}
 use Rattle.hbc_io.proofs.gather.Tie as tie
 
+-- v is the number of the bytes from k up, those below it still to come in
 abbrev Inv-loop : tie.InvT-loop
 Inv-loop s at width v₀ k₀ v k = (k ≤ width) × (v ≡ leAt s (at + k) (width - k))
 

@@ -2,7 +2,7 @@ use mathlib.Core.Path.{sym}
 use Rattle.hbc_io.proofs.Reading.{found}
 use mir.Syntax.{w64}
 use mir.ValLaws.{toZ-ofZ}
-use Rattle.hbc_io_leb.specs.Groups.{saysGroups}
+use Rattle.hbc_io_leb.specs.Private.{saysGroups}
 use Rattle.hbc_io_leb.specs.Answers.{slebOf}
 use Rattle.hbc_io_leb.proofs.Numbers.{groups-fit, signed-read, not-read}
 use borrow.Author.Needs.{needs}

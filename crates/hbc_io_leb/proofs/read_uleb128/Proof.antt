@@ -1,6 +1,6 @@
 use mathlib.Core.Path.{sym}
 use Rattle.hbc_io.proofs.Reading.{found}
-use Rattle.hbc_io_leb.specs.Groups.{saysGroups}
+use Rattle.hbc_io_leb.specs.Private.{saysGroups}
 use Rattle.hbc_io_leb.specs.Answers.{ulebOf}
 use Rattle.hbc_io_leb.proofs.Numbers.{unsigned-read, not-read}
 use borrow.Author.Needs.{needs}

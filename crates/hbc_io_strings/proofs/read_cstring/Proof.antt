@@ -10,6 +10,7 @@ use borrow.Author.Needs.{needs}
 use Rattle.hbc_io_strings.proofs.read_cstring.Statement.{statement}
 use Rattle.hbc_io_strings.proofs.read_cstring.Tie as tie
 
+-- no byte from at to before i is a zero
 abbrev Inv-loop : tie.InvT-loop
 Inv-loop s at i₀ i = (at ≤ i) × (i ≤ length s) × (before0 (drop at s) ≡ (i - at) + before0 (drop i s))
 

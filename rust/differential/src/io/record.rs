@@ -1,4 +1,4 @@
-//! A sample of the Rust's answers, as the program io_vectors reads it from its standard input. docs/VECTORS.md has the
+//! A sample of the Rust's answers, as the program io_vectors reads it from its standard input. docs/COMPARISON.md has the
 //! form of a record.
 
 use harness::{count, Random};

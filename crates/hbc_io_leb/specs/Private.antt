@@ -1,4 +1,4 @@
--- The middle step of both reads, which no caller sees: the low 64 bits of the groups, and how many there were.
+-- What only private contracts cite: no promise rests on it. The middle step of both reads: the low 64 bits of the groups, and how many there were.
 use mathlib.Core.List.{List}
 use mathlib.Core.Bool.{cond}
 use Prim.Native.Nat.{ℕ, _*_}
