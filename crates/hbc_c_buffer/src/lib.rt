@@ -4,11 +4,11 @@ ghost use Rattle.hbc_buffer_literal.specs.Literal.{word32};
 ghost use Rattle.hbc_buffer_object.specs.Object.{saysObject};
 ghost use Rattle.hbc_c_code.specs.Code.{codeIn};
 ghost use Rattle.hbc_c_buffer.specs.Buffer.{ToldLiteral, ToldSeries, ToldObject};
-use hbc_c_code::code;
 use hbc_buffer::Series;
 use hbc_buffer_literal::Literal;
 use hbc_buffer_literal::ReadLiteral;
 use hbc_buffer_object::Object;
+use hbc_c_code::code;
 use hbc_io::Cursor;
 
 // An integer as 32-bit two's complement.

@@ -20,12 +20,7 @@ pub fn read_u32_table(s: &[u8], at: &mut usize, count: u32, table: &mut [u32]) -
     }
 }
 
-pub fn read_pair_table(
-    s: &[u8],
-    at: &mut usize,
-    count: u32,
-    table: &mut [u32],
-) -> u64
+pub fn read_pair_table(s: &[u8], at: &mut usize, count: u32, table: &mut [u32]) -> u64
     ensures { λ r. ⌜ ToldTable 2 (now (s .entry)) (now (at .entry)) count (now (table .entry)) r (now (at .exit)) (now (table .exit)) ⌝ }
 {
     match hbc_table::read_pair_table(s, Cursor { at: *at }, count, table) {
@@ -58,13 +53,7 @@ pub fn decode_strings(
 }
 
 // A part does not cross the boundary: the caller takes it out of the storage by its start and length.
-pub fn string_bytes(
-    storage: &[u8],
-    rows: &[u32],
-    index: usize,
-    start: &mut usize,
-    len: &mut usize,
-)
+pub fn string_bytes(storage: &[u8], rows: &[u32], index: usize, start: &mut usize, len: &mut usize)
     ensures { λ _. ⌜ ToldPart (now (storage .entry)) (now (rows .entry)) index (now (start .exit)) (now (len .exit)) ⌝ }
 {
     let p = hbc_table_bytes::string_span(storage, rows, index);
