@@ -144,9 +144,13 @@ module _ {s functions : List ℕ} {i sum : ℕ} (v : Counted s functions i sum) 
 
 -- ---- what the loop over one function's handlers knows
 
-row-short : (s : List ℕ) (function place j : ℕ) → length (handlerRow s function place j) ≤ handlerWidth
+-- a row has its words, and no more
+pub row-length : (s : List ℕ) (function place j : ℕ) → length (handlerRow s function place j) ≡ handlerWidth
 unfolding handlerRow
-row-short s function place j = omega arith
+row-length s function place j = refl
+
+pub row-short : (s : List ℕ) (function place j : ℕ) → length (handlerRow s function place j) ≤ handlerWidth
+row-short s function place j = omega (arith, row-length s function place j)
 
 pub record Rowed (s : List ℕ) (function place first j : ℕ) (t₀ t : List ℕ) : Type 0 where
   pub is : t ≡ putRows handlerWidth (handlerRow s function place) first j t₀
@@ -164,7 +168,8 @@ module _ {s : List ℕ} {function place first j : ℕ} {t₀ t : List ℕ} (v : 
       → t′ ≡ putRow handlerWidth t (first + j) (handlerWords function start end target) → Rowed s function place first (j + 1) t₀ t′
   unfolding handlerRow
   rowed-more h a b c p =
-      record { is = rw (p, v .is, a ∙ word-there 4 s _ (omega arith), b ∙ word-there 4 s _ (omega arith), c ∙ word-there 4 s _ (omega arith)) (rows-more handlerWidth (handlerRow s function place) (row-short s function place) first t₀ j) }
+      let all = rows-more handlerWidth (handlerRow s function place) (row-short s function place) first t₀ j in
+      record { is = rw (p, v .is, a ∙ word-there 4 s _ (omega arith), b ∙ word-there 4 s _ (omega arith), c ∙ word-there 4 s _ (omega arith)) all }
 
   pub rowed-done : {n : ℕ} → j ≡ n → t ≡ putRows handlerWidth (handlerRow s function place) first n t₀
   rowed-done h = rw (← h) (v .is)
