@@ -1,2 +1,3 @@
 pub mod Why
 pub mod Handlers
+pub mod Private

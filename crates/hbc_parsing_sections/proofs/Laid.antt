@@ -1,4 +1,4 @@
--- Where the sections lie: one after another from the start to the file's end, the entries of each table within the file.
+-- The sections lie as specs/Laid says.
 use Prim.Native.Nat.{ℕ, _+_, _-_, _*_, _≤_}
 use mathlib.Core.Path.{_≡_, refl, ap, sym, _∙_}
 use mathlib.Core.List.{List}
@@ -16,32 +16,9 @@ use Rattle.hbc_parsing_sections.specs.declared.Section.{Section}
 use Rattle.hbc_parsing_sections.specs.declared.Sources.{Sources}
 use Rattle.hbc_parsing_sections.specs.declared.Sources.the-variants as src
 use Rattle.hbc_parsing_sections.specs.declared.Sections.{Sections}
+use Rattle.hbc_parsing_sections.specs.Laid.{There, Between, SourcesThere, Laid}
 use Rattle.hbc_parsing_sections.specs.Sections.{section, sectionAt, pairsAt, sourcesAt, sectionsFrom, sectionsAt}
 use Rattle.hbc_parsing_sections.proofs.Laws.{section-on}
-
--- a table's entries are in the file
-abbrev pub There : List ℕ → Section → Type 0
-There s p = p .start + 8 * p .entries ≤ length s
-
--- sources given lie between the CJS pairs and the bytecode; absent ones leave no gap
-abbrev pub Between : Sources → ℕ → ℕ → Type 0
-Between (src.Given p) from to = (p .start ≡ from) × (p .start + p .size ≡ to)
-Between src.Absent from to = from ≡ to
-
-abbrev pub SourcesThere : List ℕ → Sources → Type 0
-SourcesThere s (src.Given p) = There s p
-SourcesThere s src.Absent = Unit
-
-pub record Laid (s : List ℕ) (start : ℕ) (v : Sections) : Type 0 where
-  pub short : length s ≤ limit
-  pub first : v .regexps .start ≡ start
-  pub second : v .storage .start ≡ v .regexps .start + v .regexps .size
-  pub third : v .cjs .start ≡ v .storage .start + v .storage .size
-  pub fourth : Between (v .sources) (v .cjs .start + v .cjs .size) (v .bytecode .start)
-  pub last : v .bytecode .start + v .bytecode .size ≡ length s
-  pub regexps-there : There s (v .regexps)
-  pub cjs-there : There s (v .cjs)
-  pub sources-there : SourcesThere s (v .sources)
 
 -- ---- one section
 

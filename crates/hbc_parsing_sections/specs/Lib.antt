@@ -1,2 +1,3 @@
-pub mod Answers
 pub mod Sections
+pub mod Laid
+pub mod Private

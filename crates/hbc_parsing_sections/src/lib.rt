@@ -1,8 +1,9 @@
 // The trailing sections, after parsing.rs: regexp table, regexp storage, CJS pairs, function sources if given, bytecode.
 // A section is found by a read of its bytes and an align, as the Rust finds it; its entries are had by hbc_table's pair call at its start.
 ghost use mathlib.Core.Path.{_≡_};
-ghost use Rattle.hbc_parsing_sections.specs.Answers.{saysSection, saysSources, saysSections, told};
-ghost use Rattle.hbc_parsing_sections.specs.Sections.{sectionAt, pairsAt, sourcesAt, sectionsFrom, sectionsAt};
+ghost use Rattle.hbc_io.specs.Answer.{told};
+ghost use Rattle.hbc_parsing_sections.specs.Sections.{saysSections, sectionAt, pairsAt, sourcesAt, sectionsFrom, sectionsAt};
+ghost use Rattle.hbc_parsing_sections.specs.Private.{saysSection, saysSources};
 use hbc_io::Cursor;
 use hbc_io::Moved;
 use hbc_io::ReadSpan;

@@ -1,5 +1,5 @@
 use Rattle.hbc_io.proofs.Reading.{found}
-use Rattle.hbc_parsing_sections.specs.Answers.{saysSection, saysSources}
+use Rattle.hbc_parsing_sections.specs.Private.{saysSection, saysSources}
 use Rattle.hbc_parsing_sections.specs.Sections.{sectionsFrom}
 use borrow.Author.Needs.{needs}
 use Rattle.hbc_parsing_sections.proofs.sections_from.Statement.{statement}

@@ -1,7 +1,7 @@
 use mathlib.Core.Path.{refl}
 use Rattle.hbc_parsing_sections.proofs.Laws.{is-absent}
 use Rattle.hbc_io.proofs.Reading.{found}
-use Rattle.hbc_parsing_sections.specs.Answers.{saysSection}
+use Rattle.hbc_parsing_sections.specs.Private.{saysSection}
 use Rattle.hbc_parsing_sections.specs.Sections.{sourcesAt}
 use borrow.Author.Needs.{needs}
 use Rattle.hbc_parsing_sections.proofs.sources_at.Statement.{statement}
