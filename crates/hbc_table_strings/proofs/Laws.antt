@@ -1,23 +1,23 @@
--- The laws that the loops and the exits cite.
-use Prim.Native.Nat.{ℕ, suc, _+_, _-_, _/_, _≤_, _<_}
+-- The laws that the loops cite.
+use Prim.Native.Nat.{ℕ, suc, _+_, _-_, _≤_, _<_}
 use mathlib.Core.Path.{_≡_, refl, ap, sym, _∙_}
 use mathlib.Core.List.{List}
-use mathlib.Core.Bool.{Bool, true, false, cond}
+use mathlib.Core.Bool.{Bool, true, false}
 use native.Mathlib.Omega.{arith}
 use native.Mathlib.Numerals.{add-one}
 use native.Mathlib.Decide.{le-ind}
 use lib.ListN.{length}
-use borrow.Author.Tests.{lt-ltb, le-ltb}
-use Rattle.hbc_io.specs.Outcome.{limit}
 use Rattle.hbc_io.specs.declared.Refusal.{Refusal}
-use Rattle.hbc_rows.specs.Rows.{entryAt, rows, putRow, putRows}
-use Rattle.hbc_rows.proofs.Laws.{putRows-first, putRows-length}
-use Rattle.hbc_rows.specs.declared.Row.{Row}
-use Rattle.hbc_table_strings.specs.declared.Held.{Held}
-use Rattle.hbc_table_strings.specs.declared.Decoded.{Decoded}
-use Rattle.hbc_table_strings.specs.declared.Decoded.the-variants.{Rows, Refused}
+use Rattle.hbc_io.specs.Answer.{Answer, gives, refuses, refusedAt, andThen}
+use Rattle.hbc_io.specs.Lends.{choose}
+use Rattle.hbc_rows.specs.Rows.{entryAt, putRow, putRows}
+use Rattle.hbc_rows.proofs.RowsAt.{rows-first, rows-length}
+use Rattle.hbc_table_strings.specs.declared.kinds.Held.{Held}
+use Rattle.hbc_table_strings.specs.declared.row.StringRow.{StringRow}
 use Rattle.hbc_table_strings.specs.Kinds.{holding, movedOn, spent, heldAt, kindOf, runKind}
-use Rattle.hbc_table_strings.specs.Strings.{longOne, pairsTaken, lacksPair, rowWith, rowOf, refuse, onward, scan, lesser, decodeAnswer, DecodeStrings}
+use Rattle.hbc_table_strings.specs.Entries.{longOne, pairsTaken, lacksPair}
+use Rattle.hbc_table_strings.specs.Row.{stringWidth, stringWords, rowWith, rowOf}
+use Rattle.hbc_table_strings.specs.Strings.{scan, wordsOf, decodedRows}
 
 -- ---- one string more
 
@@ -29,13 +29,14 @@ taken-more : (small : List ℕ) (i : ℕ) → pairsTaken small (i + 1) ≡ pairs
 unfolding pairsTaken
 taken-more small i = rw add-one
 
-scan-more : (small : List ℕ) (pairs i : ℕ) → scan small pairs (i + 1) ≡ onward (scan small pairs i) (lacksPair (entryAt small i) (pairsTaken small i) pairs) i
+scan-more : (small : List ℕ) (pairs i : ℕ)
+    → scan small pairs (i + 1) ≡ andThen (scan small pairs i) (λ _. choose (lacksPair (entryAt small i) (pairsTaken small i) pairs) (refusedAt 8 i) (gives (suc i)))
 unfolding scan
 scan-more small pairs i = rw add-one
 
-scan-kept : (small : List ℕ) (pairs : ℕ) {r : Refusal} (i n : ℕ) → i ≤ n → scan small pairs i ≡ Refused r → scan small pairs n ≡ Refused r
+scan-kept : (small : List ℕ) (pairs : ℕ) {r : Refusal} (i n : ℕ) → i ≤ n → scan small pairs i ≡ refuses r → scan small pairs n ≡ refuses r
 unfolding scan
-scan-kept small pairs {r} i n h e = le-ind (λ (m : ℕ). scan small pairs m ≡ Refused r) e (λ m k p. rw p) n h
+scan-kept small pairs {r} i n h e = le-ind (λ (m : ℕ). scan small pairs m ≡ refuses r) e (λ m k p. rw p) n h
 
 -- a run that has nothing left is spent as it is
 pub spent-none : (h : Held) → h .left ≡ 0 → h ≡ spent h
@@ -51,7 +52,7 @@ held-run kinds run e = rw e
 -- ---- what the checking loop knows before string i
 
 pub record Clear (small : List ℕ) (pairs i taken : ℕ) : Type 0 where
-  pub so-far : scan small pairs i ≡ Rows i
+  pub so-far : scan small pairs i ≡ gives i
   pub counts : taken ≡ pairsTaken small i
   pub few : taken ≤ i
 
@@ -60,18 +61,20 @@ unfolding scan pairsTaken
 clear-first small pairs = record { so-far = refl; counts = refl; few = omega arith }
 
 module _ {small : List ℕ} {pairs i taken : ℕ} (v : Clear small pairs i taken) where
-  step : {raw : ℕ} {b : Bool} → raw ≡ entryAt small i → b ≡ lacksPair raw taken pairs → scan small pairs (i + 1) ≡ cond b (refuse 8 i) (Rows (suc i))
+  step : {raw : ℕ} {b : Bool} → raw ≡ entryAt small i → b ≡ lacksPair raw taken pairs → scan small pairs (i + 1) ≡ choose b (refusedAt 8 i) (gives (suc i))
   step {raw} {b} p q = rw (scan-more small pairs i, v .so-far, q, p, v .counts)
 
-  pub clear-stops : {raw n : ℕ} {b : Bool} → i < n → raw ≡ entryAt small i → b ≡ lacksPair raw taken pairs → b ≡ true → refuse 8 i ≡ scan small pairs n
+  pub clear-stops : {raw n : ℕ} {b : Bool} → i < n → raw ≡ entryAt small i → b ≡ lacksPair raw taken pairs → b ≡ true → refusedAt 8 i ≡ scan small pairs n
+  unfolding choose
   clear-stops {raw} {n} h p q e = sym (scan-kept small pairs (i + 1) n (omega arith) (step p q ∙ rw e))
 
   pub clear-goes : {raw one : ℕ} {b : Bool} → raw ≡ entryAt small i → b ≡ lacksPair raw taken pairs → b ≡ false → one ≡ longOne raw → one < 2
       → Clear small pairs (i + 1) (taken + one)
+  unfolding choose
   clear-goes {raw} {one} p q e o l =
       record { so-far = step p q ∙ rw (e, add-one); counts = rw (taken-more, o, p, v .counts); few = omega (arith, v .few) }
 
-  pub clear-done : {n : ℕ} → i ≡ n → Rows n ≡ scan small pairs n
+  pub clear-done : {n : ℕ} → i ≡ n → gives n ≡ scan small pairs n
   clear-done h = rw (← h) (sym (v .so-far))
 
 -- ---- what the writing loop knows before string i
@@ -81,7 +84,7 @@ pub record Written (kinds small overflow : List ℕ) (storage i : ℕ) (held : H
   pub far : held .run ≤ i
   pub counts : taken ≡ pairsTaken small i
   pub few : taken ≤ i
-  pub is : t ≡ putRows (rowOf kinds small overflow storage) 0 i t₀
+  pub is : t ≡ decodedRows kinds small overflow storage i t₀
 
 pub written-first : {kinds small overflow : List ℕ} {storage : ℕ} {held : Held} {t : List ℕ} → held ≡ holding kinds 0 → Written kinds small overflow storage 0 held 0 t t
 unfolding heldAt pairsTaken putRows
@@ -89,11 +92,11 @@ written-first e = record { holds = e; far = omega (arith, held-run _ _ e); count
 
 module _ {kinds small overflow : List ℕ} {storage i : ℕ} {held : Held} {taken : ℕ} {t₀ t : List ℕ} (v : Written kinds small overflow storage i held taken t₀ t) where
   pub written-length : length t ≡ length t₀
-  written-length = rw (v .is) (putRows-length (rowOf kinds small overflow storage) 0 t₀ i)
+  written-length = rw (v .is) (rows-length stringWidth (wordsOf kinds small overflow storage) (λ j. omega arith) 0 t₀ i)
 
-  pub written-more : {raw kind one : ℕ} {h held′ : Held} {r : Row} → raw ≡ entryAt small i → h ≡ movedOn kinds held → h .run ≤ held .run + 1 → kind ≡ runKind kinds (h .run)
+  pub written-more : {raw kind one : ℕ} {h held′ : Held} {r : StringRow} → raw ≡ entryAt small i → h ≡ movedOn kinds held → h .run ≤ held .run + 1 → kind ≡ runKind kinds (h .run)
       → r ≡ rowWith raw kind overflow taken storage → held′ ≡ spent h → one ≡ longOne raw → one < 2
-      → Written kinds small overflow storage (i + 1) held′ (taken + one) t₀ (putRow t i r)
+      → Written kinds small overflow storage (i + 1) held′ (taken + one) t₀ (putRow stringWidth t i (stringWords r))
   unfolding rowOf kindOf
   written-more {raw} {kind} {one} {h} {held′} {r} a b m k e s o l =
       let z : r ≡ rowOf kinds small overflow storage i = rw (e, k, b, a, v .holds, v .counts) in
@@ -103,40 +106,8 @@ module _ {kinds small overflow : List ℕ} {storage i : ℕ} {held : Held} {take
         far = omega (arith, v .far, m, w);
         counts = rw (taken-more, o, a, v .counts);
         few = omega (arith, v .few);
-        is = rw (v .is, z) (putRows-first (rowOf kinds small overflow storage) t₀ i);
+        is = rw (v .is, z) (rows-first stringWidth (wordsOf kinds small overflow storage) t₀ i);
       }
 
-  pub written-done : {m : ℕ} → i ≡ m → t ≡ putRows (rowOf kinds small overflow storage) 0 m t₀
+  pub written-done : {m : ℕ} → i ≡ m → t ≡ decodedRows kinds small overflow storage m t₀
   written-done h = rw (← h) (v .is)
-
--- ---- one law for each exit
-
-scanned : (count : ℕ) (small overflow storage t : List ℕ) → length storage ≤ limit → lesser count (length small) ≤ rows t
-    → decodeAnswer count small overflow storage t ≡ scan small (length overflow / 2) (lesser count (length small))
-unfolding decodeAnswer
-scanned count small overflow storage t h k = simp (le-ltb _ _ h, le-ltb _ _ k)
-
-module _ {count : ℕ} {kinds small overflow storage t : List ℕ} {r : Decoded} where
-  refusing : {k : Refusal} → decodeAnswer count small overflow storage t ≡ Refused k → r ≡ Refused k → DecodeStrings count kinds small overflow storage t r t
-  refusing e p = record { says = p ∙ sym e; leaves = rw e }
-
-  pub is-long : limit < length storage → r ≡ refuse 1 0 → DecodeStrings count kinds small overflow storage t r t
-  unfolding decodeAnswer
-  is-long h e = refusing (simp (lt-ltb _ _ h)) e
-
-  pub is-small : length storage ≤ limit → rows t < lesser count (length small) → r ≡ refuse 4 0 → DecodeStrings count kinds small overflow storage t r t
-  unfolding decodeAnswer
-  is-small h k e = refusing (simp (le-ltb _ _ h, lt-ltb _ _ k)) e
-
-  pub is-lacking : {n : ℕ} {k : Refusal} → n ≡ lesser count (length small) → length storage ≤ limit → n ≤ rows t
-      → r ≡ scan small (length overflow / 2) n → r ≡ Refused k → DecodeStrings count kinds small overflow storage t r t
-  is-lacking m h l e p =
-      let z = scanned count small overflow storage t h (rw (← m) l) in
-      refusing (z ∙ rw (← m) (sym e ∙ p)) p
-
-  pub is-read : {n k : ℕ} {t′ : List ℕ} → n ≡ lesser count (length small) → length storage ≤ limit → n ≤ rows t
-      → r ≡ scan small (length overflow / 2) n → r ≡ Rows k → t′ ≡ putRows (rowOf kinds small overflow (length storage)) 0 n t
-      → DecodeStrings count kinds small overflow storage t r t′
-  is-read {n} {k} m h l e p w =
-      let z : decodeAnswer count small overflow storage t ≡ Rows k = scanned count small overflow storage t h (rw (← m) l) ∙ rw (← m) (sym e ∙ p) in
-      record { says = p ∙ sym z; leaves = rw (z, ← m) w }

@@ -1,2 +1,4 @@
 pub mod Kinds
+pub mod Entries
+pub mod Row
 pub mod Strings

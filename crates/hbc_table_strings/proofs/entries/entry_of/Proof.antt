@@ -1,8 +1,8 @@
-use Rattle.hbc_table_strings.specs.Strings.{entryOf}
+use Rattle.hbc_table_strings.specs.Entries.{entryOf}
 use Rattle.hbc_rows.proofs.Laws.{test-eq, test-ne}
 use borrow.Author.Needs.{needs}
-use Rattle.hbc_table_strings.proofs.entry_of.Statement.{statement}
-use Rattle.hbc_table_strings.proofs.entry_of.Tie as tie
+use Rattle.hbc_table_strings.proofs.entries.entry_of.Statement.{statement}
+use Rattle.hbc_table_strings.proofs.entries.entry_of.Tie as tie
 
 long-one-requires : tie.Need-long-one-requires
 long-one-requires c κs = search needs

@@ -2,8 +2,8 @@ use Rattle.hbc_table_strings.specs.Kinds.{runKind}
 use Rattle.hbc_bits.proofs.Laws.{field-lt}
 use native.Mathlib.Omega.{arith}
 use borrow.Author.Needs.{needs}
-use Rattle.hbc_table_strings.proofs.run_kind.Statement.{statement}
-use Rattle.hbc_table_strings.proofs.run_kind.Tie as tie
+use Rattle.hbc_table_strings.proofs.kinds.run_kind.Statement.{statement}
+use Rattle.hbc_table_strings.proofs.kinds.run_kind.Tie as tie
 
 word-of-requires : tie.Need-word-of-requires
 word-of-requires c κs = search needs

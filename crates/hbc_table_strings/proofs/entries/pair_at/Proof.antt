@@ -1,9 +1,9 @@
-use Rattle.hbc_table_strings.specs.Strings.{pairAt}
+use Rattle.hbc_table_strings.specs.Entries.{pairAt}
 use Rattle.hbc_rows.specs.Rows.{entryAt}
 use borrow.Author.Tests.{lt-ltb, le-ltb}
 use borrow.Author.Needs.{needs}
-use Rattle.hbc_table_strings.proofs.pair_at.Statement.{statement}
-use Rattle.hbc_table_strings.proofs.pair_at.Tie as tie
+use Rattle.hbc_table_strings.proofs.entries.pair_at.Statement.{statement}
+use Rattle.hbc_table_strings.proofs.entries.pair_at.Tie as tie
 
 mul-t6 : tie.Need-mul-t6
 mul-t6 c = search needs

@@ -1,8 +1,8 @@
-use Rattle.hbc_table_strings.specs.Strings.{lacksPair}
+use Rattle.hbc_table_strings.specs.Entries.{lacksPair}
 use Rattle.hbc_rows.proofs.Laws.{test-eq, test-ne}
 use borrow.Author.Needs.{needs}
-use Rattle.hbc_table_strings.proofs.lacks_pair.Statement.{statement}
-use Rattle.hbc_table_strings.proofs.lacks_pair.Tie as tie
+use Rattle.hbc_table_strings.proofs.entries.lacks_pair.Statement.{statement}
+use Rattle.hbc_table_strings.proofs.entries.lacks_pair.Tie as tie
 
 long-one-requires : tie.Need-long-one-requires
 long-one-requires c κs = search needs

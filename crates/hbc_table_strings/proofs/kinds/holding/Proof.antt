@@ -1,7 +1,7 @@
 use Rattle.hbc_table_strings.specs.Kinds.{holding}
 use borrow.Author.Needs.{needs}
-use Rattle.hbc_table_strings.proofs.holding.Statement.{statement}
-use Rattle.hbc_table_strings.proofs.holding.Tie as tie
+use Rattle.hbc_table_strings.proofs.kinds.holding.Statement.{statement}
+use Rattle.hbc_table_strings.proofs.kinds.holding.Tie as tie
 
 word-of-requires : tie.Need-word-of-requires
 word-of-requires c κs = search needs

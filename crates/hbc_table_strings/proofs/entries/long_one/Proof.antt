@@ -1,9 +1,9 @@
-use Rattle.hbc_table_strings.specs.Strings.{longOne}
+use Rattle.hbc_table_strings.specs.Entries.{longOne}
 use Rattle.hbc_rows.proofs.Laws.{test-eq, test-ne}
 use native.Mathlib.Omega.{arith}
 use borrow.Author.Needs.{needs}
-use Rattle.hbc_table_strings.proofs.long_one.Statement.{statement}
-use Rattle.hbc_table_strings.proofs.long_one.Tie as tie
+use Rattle.hbc_table_strings.proofs.entries.long_one.Statement.{statement}
+use Rattle.hbc_table_strings.proofs.entries.long_one.Tie as tie
 
 field-of-requires : tie.Need-field-of-requires
 field-of-requires c κs = search needs

@@ -1,7 +1,7 @@
 use Rattle.hbc_table_strings.proofs.Laws.{spent-none}
 use borrow.Author.Needs.{needs}
-use Rattle.hbc_table_strings.proofs.spent.Statement.{statement}
-use Rattle.hbc_table_strings.proofs.spent.Tie as tie
+use Rattle.hbc_table_strings.proofs.kinds.spent.Statement.{statement}
+use Rattle.hbc_table_strings.proofs.kinds.spent.Tie as tie
 
 returns : tie.Need-returns
 returns c = spent-none _ (c .if1 .taken)

@@ -3,8 +3,8 @@ use Rattle.hbc_table_strings.proofs.Laws.{held-run}
 use native.Mathlib.Omega.{arith}
 use borrow.Author.Tests.{eq-eqb, ne-eqb}
 use borrow.Author.Needs.{needs}
-use Rattle.hbc_table_strings.proofs.moved_on.Statement.{statement}
-use Rattle.hbc_table_strings.proofs.moved_on.Tie as tie
+use Rattle.hbc_table_strings.proofs.kinds.moved_on.Statement.{statement}
+use Rattle.hbc_table_strings.proofs.kinds.moved_on.Tie as tie
 
 add-holding : tie.Need-add-holding
 add-holding c = search needs
