@@ -89,29 +89,34 @@ module _ (count : ℕ) (kinds small overflow storage before after : List ℕ) (n
   ok : Accepted count small before n
   ok = accept count small overflow storage before n (sym (v .says))
 
-  -- as many as the lesser of the count and the small entries lent
-  pub decoded-count : n ≡ lesser count (length small)
-  decoded-count = ok .all
+  abbrev row : ℕ → StringRow
+  row = rowOf kinds small overflow (length storage)
+
+  abbrev words : ℕ → List ℕ
+  words = wordsOf kinds small overflow (length storage)
 
   is : after ≡ decodedRows kinds small overflow (length storage) n before
   is = v .leaves ∙ rw (← ok .all)
 
+  -- as many as the lesser of the count and the small entries lent
+  pub decoded-count : n ≡ lesser count (length small)
+  decoded-count = ok .all
+
   -- row i is the row of string i
-  pub decoded-row : (i : ℕ) → i < n → rowAt stringWidth after i ≡ stringWords (rowOf kinds small overflow (length storage) i)
+  pub decoded-row : (i : ℕ) → i < n → rowAt stringWidth after i ≡ stringWords (row i)
   decoded-row i h =
       let l : i * stringWidth + stringWidth ≤ length before = row-fits stringWidth (length before) i (omega (arith, ok .room)) in
-      rw is (rw zero-add at (row-put stringWidth (wordsOf kinds small overflow (length storage)) 0 before n i (λ j. refl) h (rw zero-add l)))
+      rw is (rw zero-add at (row-put stringWidth words 0 before n i (λ j. refl) h (rw zero-add l)))
 
   -- every word past the rows is as it was
   pub decoded-rest : (y : ℕ) → n * stringWidth ≤ y → entryAt after y ≡ entryAt before y
   unfolding entryAt
   decoded-rest y h =
       let e : y / stringWidth * stringWidth + y % stringWidth ≡ y = omega arith in
-      rw is (rw e at (rows-apart stringWidth (wordsOf kinds small overflow (length storage)) (λ j. omega arith) 0 before n (y / stringWidth) (y % stringWidth) (omega arith) (λ m l q. omega arith)))
+      rw is (rw e at (rows-apart stringWidth words (λ j. omega arith) 0 before n (y / stringWidth) (y % stringWidth) (omega arith) (λ m l q. omega arith)))
 
   -- and string_bytes then hands back the bytes that row i says, for a valid row and for an invalid one
-  pub decoded-bytes : (i : ℕ) → i < n
-      → stringBytes storage after i ≡ take (rowOf kinds small overflow (length storage) i .bytes) (drop (rowOf kinds small overflow (length storage) i .start) storage)
+  pub decoded-bytes : (i : ℕ) → i < n → stringBytes storage after i ≡ take (row i .bytes) (drop (row i .start) storage)
   decoded-bytes i h =
-      let l : length after ≡ length before = rw is (rows-length stringWidth (wordsOf kinds small overflow (length storage)) (λ j. omega arith) 0 before n) in
-      bytes-at storage after i (rowOf kinds small overflow (length storage) i) (rw l (omega (arith, ok .room))) (decoded-row i h) (row-within kinds small overflow (length storage) i)
+      let l : length after ≡ length before = rw is (rows-length stringWidth words (λ j. omega arith) 0 before n) in
+      bytes-at storage after i (row i) (rw l (omega (arith, ok .room))) (decoded-row i h) (row-within kinds small overflow (length storage) i)
