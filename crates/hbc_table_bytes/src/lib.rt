@@ -21,7 +21,6 @@ fn span_at(rows: &[u32], index: usize) -> Span
                 len: word_of(rows, at + STRING_BYTES) as usize,
             };
         }
-        return Span { start: 0, len: 0 };
     }
     Span { start: 0, len: 0 }
 }
