@@ -8,7 +8,7 @@ use native.Mathlib.Numerals.{add-one}
 use native.Mathlib.Decide.{le-ind}
 use lib.ListN.{length}
 use Rattle.hbc_io.specs.declared.Refusal.{Refusal}
-use Rattle.hbc_io.specs.Answer.{Answer, gives, refuses, refusedAt, andThen}
+use Rattle.hbc_io.specs.Answer.{gives, refuses, refusedAt, andThen}
 use Rattle.hbc_io.specs.Lends.{choose}
 use Rattle.hbc_rows.specs.Rows.{entryAt, putRow, putRows}
 use Rattle.hbc_rows.proofs.RowsAt.{rows-first, rows-length}

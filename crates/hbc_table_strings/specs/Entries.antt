@@ -1,4 +1,4 @@
--- docs/FORMAT.md, section 4.3: small entries (bit 0 UTF-16, bits 1 to 23 offset, bits 24 to 31 length) and the overflow pairs that long ones take.
+-- docs/FORMAT.md, section 4.3: small entries, and the overflow pairs that long ones take.
 use Prim.Native.Nat.{ℕ, zero, suc, _+_, _*_, _/_}
 use mathlib.Core.List.{List}
 use mathlib.Core.Bool.{Bool, false, cond}
@@ -8,16 +8,25 @@ use Rattle.hbc_bits.specs.Bits.{field}
 use Rattle.hbc_rows.specs.Rows.{entryAt}
 use Rattle.hbc_table_strings.specs.declared.entries.Entry.{Entry}
 
--- 1 UTF-16, 0 one byte a unit
+-- ---- a small entry: bit 0 UTF-16 (1) or one byte a unit (0), bits 1 to 23 offset, bits 24 to 31 length in units
+
 abbrev pub utf16 : ℕ → ℕ
 utf16 raw = field 0 1 raw
+
+abbrev pub offsetOf : ℕ → ℕ
+offsetOf raw = field 1 23 raw
+
+abbrev pub unitsOf : ℕ → ℕ
+unitsOf raw = field 24 8 raw
+
+-- ---- where it says that its string is
 
 abbrev pub entry : ℕ → ℕ → Entry
 entry start units = record { start = start; units = units }
 
 -- 1 for length 255, which takes an overflow pair
 unfoldable pub longOne : ℕ → ℕ
-longOne raw = cond (eqb (field 24 8 raw) 255) 1 0
+longOne raw = cond (eqb (unitsOf raw) 255) 1 0
 
 -- the pairs taken before string i
 unfoldable pub pairsTaken : List ℕ → ℕ → ℕ
@@ -40,7 +49,7 @@ pairAt overflow p =
 -- offset, and length in units
 unfoldable pub entryOf : ℕ → List ℕ → ℕ → Entry
 entryOf raw overflow taken =
-    cond (eqb (longOne raw) 1) (pairAt overflow (pairTaken raw taken)) (entry (field 1 23 raw) (field 24 8 raw))
+    cond (eqb (longOne raw) 1) (pairAt overflow (pairTaken raw taken)) (entry (offsetOf raw) (unitsOf raw))
 
 -- byte length, doubled for UTF-16
 unfoldable pub bytesOf : ℕ → ℕ → ℕ

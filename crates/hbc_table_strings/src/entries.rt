@@ -1,7 +1,7 @@
 // Where a string is said to be: its small entry, and the overflow pair that a long one takes.
 ghost use mathlib.Core.Path.{_≡_};
 ghost use Prim.Native.Nat.{_<_, _^_};
-ghost use Rattle.hbc_table_strings.specs.Entries.{utf16, longOne, pairTaken, lacksPair, pairAt, entryOf, bytesOf};
+ghost use Rattle.hbc_table_strings.specs.Entries.{utf16, offsetOf, unitsOf, longOne, pairTaken, lacksPair, pairAt, entryOf, bytesOf};
 use hbc_rows::field_of;
 
 // Where a string starts in the storage, and how many units it has.
@@ -17,11 +17,23 @@ pub(crate) fn utf16(raw: u32) -> u32
     field_of(raw, 0, 1)
 }
 
+fn offset_of(raw: u32) -> u32
+    ensures { λ r. ⌜ r ≡ offsetOf raw ⌝ }
+{
+    field_of(raw, 1, 23)
+}
+
+fn units_of(raw: u32) -> u32
+    ensures { λ r. ⌜ r ≡ unitsOf raw ⌝ }
+{
+    field_of(raw, 24, 8)
+}
+
 // 1 where the entry takes an overflow pair.
 pub(crate) fn long_one(raw: u32) -> usize
     ensures { λ r. ⌜ (r ≡ longOne raw) × (r < 2) ⌝ }
 {
-    if field_of(raw, 24, 8) == 255 {
+    if units_of(raw) == 255 {
         return 1;
     }
     0
@@ -62,8 +74,8 @@ pub(crate) fn entry_of(raw: u32, overflow: &[u32], taken: usize) -> Entry
         return pair_at(overflow, pair_taken(raw, taken));
     }
     Entry {
-        start: field_of(raw, 1, 23),
-        units: field_of(raw, 24, 8),
+        start: offset_of(raw),
+        units: units_of(raw),
     }
 }
 

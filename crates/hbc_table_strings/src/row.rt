@@ -2,7 +2,7 @@
 ghost use mathlib.Core.Path.{_≡_};
 ghost use Prim.Native.Nat.{_≤_, _<_, _^_};
 ghost use Rattle.hbc_rows.specs.Rows.{putRow};
-ghost use Rattle.hbc_table_strings.specs.Row.{stringWidth, stringWords, invalid, rowFor, rowWith};
+ghost use Rattle.hbc_table_strings.specs.Row.{stringWidth, stringWords, rowFor, rowWith};
 use crate::entries::bytes_of;
 use crate::entries::entry_of;
 use crate::entries::utf16;
@@ -23,17 +23,6 @@ pub(crate) fn put_string(rows: &mut [u32], k: usize, row: StringRow)
     put_row(rows, k, &words);
 }
 
-fn invalid(marks: u32) -> StringRow
-    ensures { λ r. ⌜ r ≡ invalid marks ⌝ }
-{
-    StringRow {
-        start: 0,
-        bytes: 0,
-        invalid: 1,
-        marks,
-    }
-}
-
 fn row_for(start: u32, bytes: usize, marks: u32, storage: usize) -> StringRow
     requires { ⌜ (storage ≤ 2 ^ 30) × (bytes < 2 ^ 33) ⌝ }
     ensures { λ r. ⌜ r ≡ rowFor start bytes marks storage ⌝ }
@@ -48,9 +37,13 @@ fn row_for(start: u32, bytes: usize, marks: u32, storage: usize) -> StringRow
                 marks,
             };
         }
-        return invalid(marks);
     }
-    invalid(marks)
+    StringRow {
+        start: 0,
+        bytes: 0,
+        invalid: 1,
+        marks,
+    }
 }
 
 pub(crate) fn row_with(

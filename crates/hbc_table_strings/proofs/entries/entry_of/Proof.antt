@@ -17,15 +17,15 @@ returns : tie.Need-returns
 unfolding entryOf
 returns c = rw (test-eq (c .before .before .before .long-one .ensures .0) (c .before .before .if1 .taken), ← c .before .pair-taken .ensures) (c .pair-at .ensures)
 
-field-of-requires : tie.Need-field-of-requires
-field-of-requires c κs = search needs
+offset-of-requires : tie.Need-offset-of-requires
+offset-of-requires c κs = search needs
 
-field-of-requires-2 : tie.Need-field-of-requires-2
-field-of-requires-2 c κs = search needs
+units-of-requires : tie.Need-units-of-requires
+units-of-requires c κs = search needs
 
 returns-2 : tie.Need-returns-2
 unfolding entryOf
-returns-2 c = rw (test-ne (c .before .before .before .long-one .ensures .0) (c .before .before .if1 .left), c .before .field-of .ensures, c .field-of2 .ensures)
+returns-2 c = rw (test-ne (c .before .before .before .long-one .ensures .0) (c .before .before .if1 .left), c .before .offset-of .ensures, c .units-of .ensures)
 
 pub entry-of-spec : {M : Type 1} → statement M
 entry-of-spec =
@@ -35,6 +35,6 @@ entry-of-spec =
     pair-taken-requires
     pair-at-requires
     returns
-    field-of-requires
-    field-of-requires-2
+    offset-of-requires
+    units-of-requires
     returns-2)

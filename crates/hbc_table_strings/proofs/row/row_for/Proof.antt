@@ -14,19 +14,13 @@ returns : tie.Need-returns
 unfolding rowFor
 returns c = rw (lt-ltb _ _ (c .before .if1 .taken), le-leb _ _ (c .if2 .taken))
 
-invalid-requires : tie.Need-invalid-requires
-invalid-requires c κs = search needs
-
 returns-2 : tie.Need-returns-2
 unfolding rowFor
-returns-2 c = rw (lt-ltb _ _ (c .before .before .if1 .taken), lt-leb _ _ (c .before .if2 .left)) (c .invalid .ensures)
-
-invalid-requires-2 : tie.Need-invalid-requires-2
-invalid-requires-2 c κs = search needs
+returns-2 c = rw (lt-ltb _ _ (c .before .if1 .taken), lt-leb _ _ (c .if2 .left))
 
 returns-3 : tie.Need-returns-3
 unfolding rowFor
-returns-3 c = rw (le-ltb _ _ (c .before .if1 .left)) (c .invalid2 .ensures)
+returns-3 c = rw (le-ltb _ _ (c .if1 .left))
 
 pub row-for-spec : {M : Type 1} → statement M
-row-for-spec = tie.close (tie.spec add-if2 cast-t9 returns invalid-requires returns-2 invalid-requires-2 returns-3)
+row-for-spec = tie.close (tie.spec add-if2 cast-t9 returns returns-2 returns-3)
