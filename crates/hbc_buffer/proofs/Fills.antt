@@ -10,8 +10,8 @@ use lib.Pow.{pow-add}
 use lib.ListN.{length, set, length-set}
 use Rattle.hbc_bits.specs.Bits.{leAt, field}
 use Rattle.hbc_bits.proofs.Laws.{Bytes, le-lt, le-add, field-low}
-use Rattle.hbc_buffer.specs.Series.{filled}
-use Rattle.hbc_buffer.specs.Fill.{filledFrom}
+use Rattle.hbc_rows.specs.Rows.{filled}
+use Rattle.hbc_buffer.specs.Private.{filledFrom}
 
 pub from-more : (k n : ℕ) (g : ℕ → ℕ) (t : List ℕ) → filledFrom k (n + 1) g t ≡ set (filledFrom k n g t) (k + n) (g n)
 unfolding filledFrom
@@ -22,13 +22,8 @@ unfolding filledFrom
 from-length k zero g t = refl
 from-length k (suc n) g t = rw (length-set, from-length k n g t)
 
-pub filled-length : (n : ℕ) (f : ℕ → ℕ) (t : List ℕ) → length (filled n f t) ≡ length t
-unfolding filled
-filled-length zero f t = refl
-filled-length (suc n) f t = rw (length-set, filled-length n f t)
-
 -- n entries more
-pub from-filled : (k n : ℕ) (g f : ℕ → ℕ) (t : List ℕ) → ((i : ℕ) → i < n → g i ≡ f (k + i)) → filledFrom k n g (filled k f t) ≡ filled (k + n) f t
+pub from-filled : (k n : ℕ) (g f : ℕ → ℕ) (t : List ℕ) → ((i : ℕ) → i < n → g i ≡ f (k + i)) → filledFrom k n g (filled f k t) ≡ filled f (k + n) t
 unfolding filledFrom filled
 from-filled k zero g f t h = let e : k + 0 ≡ k = omega arith in rw e
 from-filled k (suc n) g f t h = rw (add-suc, from-filled k n g f t (λ i l. h i (omega arith)), h n (omega arith))

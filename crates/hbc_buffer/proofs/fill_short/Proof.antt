@@ -4,7 +4,7 @@ use native.Mathlib.Omega.{arith}
 use native.Mathlib.Nat.{zero-mul, add-zero}
 use lib.ListN.{length}
 use Rattle.hbc_bits.specs.Bits.{leAt}
-use Rattle.hbc_buffer.specs.Fill.{filledFrom}
+use Rattle.hbc_buffer.specs.Private.{filledFrom}
 use Rattle.hbc_buffer.proofs.Fills.{from-more, from-length, run-room-8, run-step, payload-more}
 use borrow.Author.Needs.{needs}
 use Rattle.hbc_buffer.proofs.fill_short.Statement.{statement}

@@ -4,11 +4,13 @@ use native.Mathlib.Omega.{arith}
 use lib.ListN.{length}
 use Rattle.hbc_bits.proofs.Laws.{field-lt}
 use Rattle.hbc_io.specs.Outcome.{cursorAt}
+use Rattle.hbc_rows.specs.Rows.{filled}
+use Rattle.hbc_rows.proofs.Laws.{filled-length}
 use Rattle.hbc_buffer_literal.specs.Literal.{widthOf}
 use Rattle.hbc_buffer_literal.proofs.Laws.{width-most}
-use Rattle.hbc_buffer.specs.Series.{kindAt, payloadAt, filled}
+use Rattle.hbc_buffer.specs.Series.{kindAt, payloadAt}
 use Rattle.hbc_buffer.proofs.Tags.{tag-there}
-use Rattle.hbc_buffer.proofs.Fills.{filled-length, small-product}
+use Rattle.hbc_buffer.proofs.Fills.{small-product}
 use Rattle.hbc_buffer.proofs.Passes.{Passed, passed-first, passed-more, whole-tag, whole-room, within-tag, kinds-more, payloads-more, turn-within, turn-on, Known, known-first, known-next, known-on, again-more, again-kinds, again-payloads, none-more, none-kinds, none-payloads}
 use borrow.Author.Needs.{needs}
 use Rattle.hbc_buffer.proofs.write.Statement.{statement}
@@ -16,7 +18,7 @@ use Rattle.hbc_buffer.proofs.write.Tie as tie
 
 abbrev Inv-loop : tie.InvT-loop
 Inv-loop s from count kinds₀ payloads₀ at₀ done₀ last₀ size₀ wide₀ kinds payloads at done last size wide =
-    Passed s from count done at × Known count done last size wide × (kinds ≡ filled done (kindAt s (cursorAt from)) kinds₀) × (payloads ≡ filled done (payloadAt s (cursorAt from)) payloads₀)
+    Passed s from count done at × Known count done last size wide × (kinds ≡ filled (kindAt s (cursorAt from)) done kinds₀) × (payloads ≡ filled (payloadAt s (cursorAt from)) done payloads₀)
 
 abbrev μ-loop : tie.MeasureT-loop
 μ-loop s from count kinds₀ payloads₀ at₀ done₀ last₀ size₀ wide₀ kinds payloads at done last size wide = length s - at
