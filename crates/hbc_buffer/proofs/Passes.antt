@@ -17,7 +17,7 @@ use Rattle.hbc_buffer_literal.proofs.Laws.{width-most, kind-any}
 use Rattle.hbc_buffer.specs.Series.{Run, runOf, tagAt, headAt, after, usedOf, valueAt, kindAt, payloadAt}
 use Rattle.hbc_buffer.specs.Private.{byteAt, lengthOf, filledFrom, kindsFrom, payloadsFrom, Whole}
 use Rattle.hbc_buffer.proofs.Fills.{from-filled}
-use Rattle.hbc_buffer.proofs.Tags.{On, tag-on, tag-cut, short-tag, short-length, none-width, head-here, head-skip, head-no}
+use Rattle.hbc_buffer.proofs.Tags.{On, tag-on, tag-there, tag-cut, short-tag, short-length, none-width, head-here, head-skip, head-no}
 use Rattle.hbc_buffer.proofs.Runs.{Ready, ready-head, after-none, refused-stays, run-past, run-cut, run-value}
 
 -- `done` of `count` values are read, the run is spent, and only empty tags stand between its end and `at`
@@ -83,6 +83,11 @@ module _ {s : List ℕ} {from count done at : ℕ} (g : Passed s from count done
   -- a series that is whole has its next tag
   pub whole-tag : {b h : ℕ} → length s ≤ limit → b ≡ byteAt s at → h ≡ field 7 1 b → Whole count s (cursorAt from) → at + 1 + h ≤ length s
   whole-tag {b} {h} short first high v = tag-or short first high v (decLe (at + 1 + h) (length s))
+
+  -- and what it says is what its bytes say
+  pub whole-there : {b t h y n : ℕ} → length s ≤ limit → b ≡ byteAt s at → t ≡ field 4 3 b → h ≡ field 7 1 b → y ≡ byteAt s (at + 1) → n ≡ lengthOf b y
+      → Whole count s (cursorAt from) → tagAt s (cursorAt at) ≡ got (runOf t n) (cursorAt (at + 1 + h))
+  whole-there short first tag high second len v = tag-there s at short first tag high second len (whole-tag short first high v)
 
   module _ (short : length s ≤ limit) {t l f : ℕ} (e : tagAt s (cursorAt at) ≡ got (runOf t l) (cursorAt f)) (m : ℕ) (least : m ≡ min l (count - done)) where
     abbrev w : ℕ
@@ -179,14 +184,14 @@ module _ {s : List ℕ} {from count done at : ℕ} (g : Passed s from count done
 
     -- the words of the run are the next of each table
     pub kinds-more : {k : ℕ} {a : List ℕ} (a₀ : List ℕ) → m * w ≤ length s - f → k ≡ kindOf (literalOf t 0) → a ≡ filled (kindAt s (cursorAt from)) done a₀
-        → filledFrom done m (λ _. k) a ≡ filled (kindAt s (cursorAt from)) (done + m) a₀
+        → kindsFrom k done m a ≡ filled (kindAt s (cursorAt from)) (done + m) a₀
     kinds-more {k} {a} a₀ h c b =
         rw b
         (from-filled done m (λ _. k) (kindAt s (cursorAt from)) a₀
         (λ i l. c ∙ kind-any t 0 (leAt s (f + i * w) w) ∙ passed-value (λ t v. kindOf (literalOf t v)) h i l))
 
     pub payloads-more : {a : List ℕ} (a₀ : List ℕ) → m * w ≤ length s - f → a ≡ filled (payloadAt s (cursorAt from)) done a₀
-        → filledFrom done m (λ i. leAt s (f + i * w) w) a ≡ filled (payloadAt s (cursorAt from)) (done + m) a₀
+        → payloadsFrom s f w done m a ≡ filled (payloadAt s (cursorAt from)) (done + m) a₀
     payloads-more {a} a₀ h b =
         rw b (from-filled done m (λ i. leAt s (f + i * w) w) (payloadAt s (cursorAt from)) a₀ (λ i l. passed-value (λ t v. v) h i l))
 
@@ -244,11 +249,11 @@ module _ {s : List ℕ} {from count done at : ℕ} (g : Passed s from count done
       rw (e, known .1) (passed-more g some short there size least room)
 
   pub again-kinds : {t v : ℕ} {x : List ℕ} (x₀ : List ℕ) → t ≡ field 4 3 b → v ≡ kindOf (literalOf t 0) → x ≡ filled (kindAt s (cursorAt from)) done x₀
-      → filledFrom done size (λ _. v) x ≡ filled (kindAt s (cursorAt from)) (done + size) x₀
+      → kindsFrom v done size x ≡ filled (kindAt s (cursorAt from)) (done + size) x₀
   again-kinds x₀ e f h = kinds-more g some short there size least x₀ room (rw e at f) h
 
   pub again-payloads : {x : List ℕ} (x₀ : List ℕ) → x ≡ filled (payloadAt s (cursorAt from)) done x₀
-      → filledFrom done size (λ i. leAt s (at + 1 + i * wide) wide) x ≡ filled (payloadAt s (cursorAt from)) (done + size) x₀
+      → payloadsFrom s (at + 1) wide done size x ≡ filled (payloadAt s (cursorAt from)) (done + size) x₀
   again-payloads x₀ h = rw (known .1) (payloads-more g some short there size least x₀ room h)
 
 -- ---- tags without bytes
@@ -274,7 +279,7 @@ module _ {s : List ℕ} {from count done at : ℕ} (g : Passed s from count done
       rw e at (passed-more g some short tagged-none m fewer room-none)
 
   pub none-kinds : {t v : ℕ} {x : List ℕ} (x₀ : List ℕ) → t ≡ field 4 3 b → v ≡ kindOf (literalOf t 0) → x ≡ filled (kindAt s (cursorAt from)) done x₀
-      → filledFrom done m (λ _. v) x ≡ filled (kindAt s (cursorAt from)) (done + m) x₀
+      → kindsFrom v done m x ≡ filled (kindAt s (cursorAt from)) (done + m) x₀
   none-kinds x₀ e f h = kinds-more g some short tagged-none m fewer x₀ room-none (rw e at f) h
 
   pub none-payloads : {x : List ℕ} (x₀ : List ℕ) → x ≡ filled (payloadAt s (cursorAt from)) done x₀

@@ -14,12 +14,14 @@ use Rattle.hbc_buffer_object.specs.declared.Object.{Object}
 use Rattle.hbc_buffer_object.specs.Object.{named, objectOf, saysObject, ObjectIn, ReadObject}
 
 -- an object writes where its series does: its refusal's number is 0 only where it is accepted
-same-words : {W : Type 0} (b : Bool) (offset count : ℕ) (new old : W) (a : Answer ℕ) → Numbered a → written a new old ≡ written (saysObject (objectOf b offset count a)) new old
+same-words : {W : Type 0} (b : Bool) (offset count : ℕ) (new old : W) (a : Answer ℕ) → Numbered a
+    → written a new old ≡ written (saysObject (objectOf b offset count a)) new old
 same-words b offset count new old (gives n) h = refl
 same-words b offset count new old (refuses r) h = rw (ne-eqb _ _ h)
 
 module _ (offset count : ℕ) {ks ps : List ℕ} {a : Series} {o : Object} {ks′ ps′ : List ℕ} where
-  in-buffer : (b : Bool) (s : List ℕ) → ReadSeries s offset count ks ps a ks′ ps′ → o ≡ objectOf b offset count (saysSeries a) → ObjectIn s b offset count ks ps o ks′ ps′
+  in-buffer : (b : Bool) (s : List ℕ) → ReadSeries s offset count ks ps a ks′ ps′ → o ≡ objectOf b offset count (saysSeries a)
+      → ObjectIn s b offset count ks ps o ks′ ps′
   in-buffer b s p f =
       let h : Numbered (saysSeries a) = subst (λ (x : Answer ℕ). Numbered x) (sym (p .says)) (series-numbered s offset count (length ks) (length ps)) in
       record {

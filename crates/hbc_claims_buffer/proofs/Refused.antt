@@ -24,11 +24,13 @@ literal-left tag s c e = plain-left s c (widthOf tag) (literalOf tag) e
 pub series-left : (s : List ℕ) (offset count : ℕ) {ks ps : List ℕ} {r : Refusal} {ks′ ps′ : List ℕ} → SeriesLeft s offset count ks ps r ks′ ps′
 series-left s offset count v = apart (v .leaves)
 
-by-answer : (keys values : List ℕ) (b : Bool) (offset count : ℕ) (o : Object) (a : Answer ℕ) → o ≡ objectOf b offset count a → (o .refusal .number ≡ 0 → ⊥) → objectPart keys values o ≡ []
+by-answer : (keys values : List ℕ) (b : Bool) (offset count : ℕ) (o : Object) (a : Answer ℕ)
+    → o ≡ objectOf b offset count a → (o .refusal .number ≡ 0 → ⊥) → objectPart keys values o ≡ []
 by-answer keys values b offset count o (gives n) e h = absurd (h (ap (λ (x : Object). x .refusal .number) e))
 by-answer keys values b offset count o (refuses r) e h = ap (objectPart keys values) e ∙ refused-empty keys values b offset count r
 
-pub object-left : (keys values : List ℕ) (b : Bool) (offset count : ℕ) {ks ps : List ℕ} {o : Object} {ks′ ps′ : List ℕ} → ObjectLeft keys values b offset count ks ps o ks′ ps′
+pub object-left : (keys values : List ℕ) (b : Bool) (offset count : ℕ) {ks ps : List ℕ} {o : Object} {ks′ ps′ : List ℕ}
+    → ObjectLeft keys values b offset count ks ps o ks′ ps′
 object-left keys values b offset count {ks} {ps} {o} v h =
     let t = apart (rw (ne-eqb _ _ h) at (v .leaves)) in
     (t .0, t .1, by-answer keys values b offset count o (seriesAnswer (named b keys values) offset count (length ks) (length ps)) (v .says) h)

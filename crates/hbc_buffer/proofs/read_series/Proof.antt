@@ -48,9 +48,11 @@ refuse-requires-4 c κs = search needs
 returns-5 : tie.Need-returns-5
 unfolding seriesAnswer
 returns-5 c =
+    let tests = c .before in
     past _ _ _ _ (omega arith)
-    (leave _ _ _ (ne-eqb _ _ (c .before .before .before .before .if2 .left))
-    (leave _ _ _ (lt-leb _ _ (c .before .before .before .if3 .left)) (past _ _ _ _ (omega arith) (stop _ _ _ _ (omega arith) refl (ap refuses (c .refuse4 .ensures))))))
+    (leave _ _ _ (ne-eqb _ _ (tests .before .before .before .if2 .left))
+    (leave _ _ _ (lt-leb _ _ (tests .before .before .if3 .left))
+    (past _ _ _ _ (omega arith) (stop _ _ _ _ (omega arith) refl (ap refuses (c .refuse4 .ensures))))))
 
 check-requires : tie.Need-check-requires
 check-requires c κs = search needs
@@ -60,9 +62,10 @@ enum-known-used c = search needs
 
 write-requires : tie.Need-write-requires
 write-requires c κs =
-    let inside = c .before .before .before .before .before .before .before .before .if3 .left in
+    let tests = c .before .before .before .before .before .before in
+    let inside = tests .before .before .if3 .left in
     let whole = whole-used (sym (c .before .before .before .before .before .check .ensures) ∙ ap saysSeries (c .before .before .before .used .given .1)) in
-    (c .before .before .before .before .before .before .before .before .before .before .if1 .left, omega (arith, inside), omega arith, c .before .before .before .before .before .before .before .if4 .left, c .before .before .before .before .before .before .if5 .left, whole)
+    (tests .before .before .before .before .if1 .left, omega (arith, inside), omega arith, tests .before .if4 .left, tests .if5 .left, whole)
 
 enum-known-r : tie.Need-enum-known-r
 enum-known-r c = search needs
@@ -76,20 +79,22 @@ same-length-2 c = search needs
 returns-6 : tie.Need-returns-6
 unfolding seriesAnswer
 returns-6 c =
-    let used = ap saysSeries (sym (c .before .before .before .before .before .before .before .before .used .given .1)) ∙ c .before .before .before .before .before .before .before .before .before .before .check .ensures in
+    let tests = c .before .before .before .before .before .before .before .before .before .before .before in
     let wrote = c .before .before .before .before .write .ensures in
+    let used = ap saysSeries (sym (c .before .before .before .before .before .before .before .before .used .given .1)) ∙ c .before .before .before .before .before .before .before .before .before .before .check .ensures in
     past _ _ _ _ (omega arith)
-    (leave _ _ _ (ne-eqb _ _ (c .before .before .before .before .before .before .before .before .before .before .before .before .before .before .if2 .left))
-    (leave _ _ _ (lt-leb _ _ (c .before .before .before .before .before .before .before .before .before .before .before .before .before .if3 .left))
+    (leave _ _ _ (ne-eqb _ _ (tests .before .before .before .if2 .left))
+    (leave _ _ _ (lt-leb _ _ (tests .before .before .if3 .left))
     (past _ _ _ _ (omega arith) (past _ _ _ _ (omega arith) (given refl used (pair (wrote .0) (wrote .1)))))))
 
 returns-7 : tie.Need-returns-7
 unfolding seriesAnswer
 returns-7 c =
+    let tests = c .before .before .before .before in
+    let cut = ap saysSeries (sym (c .before .r .given .1)) ∙ c .before .before .before .check .ensures in
     past _ _ _ _ (omega arith)
-    (leave _ _ _ (ne-eqb _ _ (c .before .before .before .before .before .before .before .if2 .left))
-    (leave _ _ _ (lt-leb _ _ (c .before .before .before .before .before .before .if3 .left))
-    (past _ _ _ _ (omega arith) (past _ _ _ _ (omega arith) (refused refl (ap saysSeries (sym (c .before .r .given .1)) ∙ c .before .before .before .check .ensures))))))
+    (leave _ _ _ (ne-eqb _ _ (tests .before .before .before .if2 .left))
+    (leave _ _ _ (lt-leb _ _ (tests .before .before .if3 .left)) (past _ _ _ _ (omega arith) (past _ _ _ _ (omega arith) (refused refl cut)))))
 
 pub read-series-spec : {M : Type 1} → statement M
 read-series-spec =
