@@ -18,7 +18,7 @@ use Rattle.hbc_io.proofs.Reading.{then-got, valued-got}
 use Rattle.hbc_io.proofs.Plains.{plain-got, plain-is}
 use Rattle.hbc_buffer_literal.specs.Literal.{widthOf}
 use Rattle.hbc_buffer_literal.proofs.Laws.{width-none}
-use Rattle.hbc_buffer.specs.Fill.{byteAt, lengthOf}
+use Rattle.hbc_buffer.specs.Private.{byteAt, lengthOf}
 use Rattle.hbc_buffer.specs.Series.{Run, runOf, lengthAt, tagAt, headAt}
 
 -- ---- a tag, from its bytes

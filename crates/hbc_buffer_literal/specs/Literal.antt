@@ -1,4 +1,4 @@
--- One literal: what it is, by bits 4 to 6 of its tag and its bytes, and what the lent tables take for it.
+-- docs/FORMAT.md, sections 5.1 and 5.2: one literal, by bits 4 to 6 of its tag and its bytes, and what the lent tables take for it.
 use Prim.Native.Nat.{ℕ, suc, _-_, _^_}
 use mathlib.Core.List.{List}
 use mathlib.Core.Bool.{true, false, cond}

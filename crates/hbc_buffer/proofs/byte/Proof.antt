@@ -2,7 +2,7 @@ use Rattle.hbc_io.proofs.Plains.{plain-lt}
 use native.Mathlib.Omega.{arith}
 use Rattle.hbc_io.specs.Answers.{saysU8}
 use Rattle.hbc_io.proofs.Reading.{found}
-use Rattle.hbc_buffer.specs.Fill.{byteAt}
+use Rattle.hbc_buffer.specs.Private.{byteAt}
 use borrow.Author.Needs.{needs}
 use Rattle.hbc_buffer.proofs.byte.Statement.{statement}
 use Rattle.hbc_buffer.proofs.byte.Tie as tie

@@ -12,7 +12,11 @@ enum-known-v : tie.Need-enum-known-v
 enum-known-v c = search needs
 
 worded-requires : tie.Need-worded-requires
-worded-requires c κs = (c .before .before .before .before .before .pre .0, c .before .before .before .before .before .pre .1, payload-lt _ _ _ (λ i. c .before .before .before .before .shared-slice-known .given i .fits) (c .before .before .before .before .before .pre .0) (found saysU64 (c .before .before .before .read-payload .ensures) (c .before .v .given .1)))
+worded-requires c κs =
+    let read = c .before .before .before in
+    let pre = read .before .before .pre in
+    let known = found saysU64 (read .read-payload .ensures) (c .before .v .given .1) in
+    (pre .0, pre .1, payload-lt _ _ _ (λ i. read .before .shared-slice-known .given i .fits) (pre .0) known)
 
 enum-known-r : tie.Need-enum-known-r
 enum-known-r c = search needs

@@ -10,6 +10,7 @@ use lib.ListN.{length}
 use Rattle.hbc_io.specs.Outcome.{Outcome, got, refused, refusal, limit}
 use Rattle.hbc_io.specs.declared.Cursor.{Cursor}
 use Rattle.hbc_buffer.specs.Series.{Run, tagAt, headAt}
+use Rattle.hbc_claims_buffer.specs.Tags.{Enough}
 use Rattle.hbc_buffer.proofs.Tags.{plain-cut, head-here, head-skip, head-none, head-out, tag-on}
 
 no-tag : (s : List ℕ) (c : Cursor) → length s ≤ limit → c .at ≤ length s → length s - c .at ≤ 0 → tagAt s c ≡ refused (refusal 3) c
@@ -46,6 +47,5 @@ head-more zero g s c l h x y = head-out zero s c refl ∙ sym (head-end g s c l 
 head-more (suc f) zero s c l h x y = head-end (suc f) s c l h y ∙ sym (head-out zero s c refl)
 head-more (suc f) (suc g) s c l h x y = one-more f g s c (head-more f g s) l h x y
 
--- the tag that the definition finds, of at most as many as the buffer has bytes, is the one that is found of any more
-pub enough : (k : ℕ) (s : List ℕ) (c : Cursor) → length s ≤ limit → c .at ≤ length s → headAt (length s + k) s c ≡ headAt (length s) s c
+pub enough : (k : ℕ) (s : List ℕ) (c : Cursor) → Enough k s c
 enough k s c l h = head-more (length s + k) (length s) s c l h (omega arith) (omega arith)

@@ -1,24 +1,26 @@
--- The bytes that an accepted series used are there: it ends at or behind its start and not past the buffer's end.
+-- An accepted series ends at or behind its start and not past the buffer's end.
 use Prim.Native.Nat.{ℕ, zero, suc, _+_, _-_, _^_, _≤_, _<_}
 use mathlib.Core.Path.{_≡_, refl, sym, ap, _∙_, subst}
 use mathlib.Core.List.{List}
 use mathlib.Core.Bool.{Bool, true, false, cond}
 use native.Mathlib.Omega.{arith}
-use borrow.Author.Tests.{ltb-false, leb-false, eqb-false, ne-eqb}
-use lib.Dec.{ltb, leb, eqb}
+use borrow.Author.Tests.{leb-false, eqb-false, ne-eqb}
+use lib.Dec.{leb, eqb}
 use lib.ListN.{length}
 use Rattle.hbc_io.specs.Outcome.{Outcome, got, refused, valued, cursorAt, limit}
+use Rattle.hbc_io.specs.Answer.{Answer, gives, refuses}
+use Rattle.hbc_io.specs.Lends.{choose}
 use Rattle.hbc_io.specs.Plain.{plainAt}
 use Rattle.hbc_io.specs.declared.Cursor.{Cursor}
 use Rattle.hbc_io.specs.declared.Refusal.{Refusal}
 use Rattle.hbc_io.proofs.Reading.{then-got, valued-got, not-both}
 use Rattle.hbc_io.proofs.Plains.{plain-got}
+use Rattle.hbc_io.proofs.Exits.{reached}
 use Rattle.hbc_buffer_literal.specs.Literal.{widthOf}
-use Rattle.hbc_buffer.specs.declared.Series.{Series}
-use Rattle.hbc_buffer.specs.declared.Series.the-variants as series
 use Rattle.hbc_buffer.specs.Series.{Run, runOf, tagAt, headAt, runAt, step, placed, after, usedOf, seriesAnswer}
 use Rattle.hbc_buffer.proofs.Tags.{tag-on}
 use Rattle.hbc_claims_law.specs.Tests.{past}
+use Rattle.hbc_claims_buffer.specs.Used.{UsedWithin, UsedSmall}
 
 -- from c to n, and not past the end
 pub record Reach (s : List ℕ) (c n : Cursor) : Type 0 where
@@ -76,42 +78,43 @@ after-reach (suc k) s c u n h e =
     let a = after-reach k s c (p .0) (p .1) h (p .2) in
     reach-on a (step-reach s (p .0) (p .1) u n (a .within) (placed-got k (step s (p .0) (p .1)) u n (p .3)))
 
-not-used : {r : Refusal} {n : ℕ} → series.Refused r ≡ series.Used n → ⊥
+not-used : {r : Refusal} {n : ℕ} → refuses r ≡ gives n → ⊥
 not-used e = let z : _≡_ {A = ℕ} 0 1 = cc in omega arith
 
-past-none : (b : Bool) (x : Series) (n : ℕ) → b ≡ false → cond b (series.Used 0) x ≡ series.Used n → x ≡ series.Used n
-past-none b x n h e = ap (λ (c : Bool). cond c (series.Used 0) x) (sym h) ∙ e
+past-none : (b : Bool) (x : Answer ℕ) (n : ℕ) → b ≡ false → cond b (gives 0) x ≡ gives n → x ≡ gives n
+past-none b x n h e = ap (λ (c : Bool). cond c (gives 0) x) (sym h) ∙ e
 
-used-reach : (s : List ℕ) (offset n : ℕ) (o : Outcome Run) → usedOf offset o ≡ series.Used n → ((u : Run) (m : Cursor) → o ≡ got u m → Reach s (cursorAt offset) m) → offset + n ≤ length s
+used-reach : (s : List ℕ) (offset n : ℕ) (o : Outcome Run) → usedOf offset o ≡ gives n
+    → ((u : Run) (m : Cursor) → o ≡ got u m → Reach s (cursorAt offset) m) → offset + n ≤ length s
 used-reach s offset n (got u m) e f = let r = f u m refl in let k : m .at - offset ≡ n = cc in omega (arith, r .up, r .within)
 used-reach s offset n (refused r m) e f = absurd (not-used e)
 
--- the bytes used lie in the buffer
-pub used-within : (s : List ℕ) (offset count kinds payloads n : ℕ) → (count ≡ 0 → ⊥) → seriesAnswer s offset count kinds payloads ≡ series.Used n → offset + n ≤ length s
-unfolding seriesAnswer
-used-within s offset count kinds payloads n some e =
-    let a = past not-used (ltb limit (length s)) e in
-    let b = past-none (eqb count 0) _ n (ne-eqb _ _ some) (a .1) in
-    let c = past not-used (leb (length s) offset) b in
-    let d = past not-used (ltb kinds count) (c .1) in
-    let f = past not-used (ltb payloads count) (d .1) in
-    used-reach s offset n (after count s (cursorAt offset)) (f .1) (λ u m. after-reach count s (cursorAt offset) u m (omega (arith, leb-false (length s) offset (c .0))))
+module _ (s : List ℕ) (offset count kinds payloads n : ℕ) where
+  pub used-within : UsedWithin s offset count kinds payloads n
+  unfolding seriesAnswer choose
+  used-within some e =
+      let a = reached limit (length s) _ _ not-used e in
+      let b = past-none (eqb count 0) _ n (ne-eqb _ _ some) (a .1) in
+      let c = past not-used (leb (length s) offset) b in
+      let d = reached kinds count _ _ not-used (c .1) in
+      let f = reached payloads count _ _ not-used (d .1) in
+      used-reach s offset n (after count s (cursorAt offset)) (f .1)
+      (λ u m. after-reach count s (cursorAt offset) u m (omega (arith, leb-false (length s) offset (c .0))))
 
-used-short : (s : List ℕ) (offset count kinds payloads n : ℕ) → seriesAnswer s offset count kinds payloads ≡ series.Used n → length s ≤ limit
-unfolding seriesAnswer
-used-short s offset count kinds payloads n e = ltb-false _ _ (past not-used (ltb limit (length s)) e .0)
+  used-short : seriesAnswer s offset count kinds payloads ≡ gives n → length s ≤ limit
+  unfolding seriesAnswer
+  used-short e = reached limit (length s) _ _ not-used e .0
 
-used-none : (s : List ℕ) (offset count kinds payloads n : ℕ) → eqb count 0 ≡ true → seriesAnswer s offset count kinds payloads ≡ series.Used n → 0 ≡ n
-unfolding seriesAnswer
-used-none s offset count kinds payloads n q e =
-    let a = past not-used (ltb limit (length s)) e .1 in
-    let b : series.Used 0 ≡ series.Used n = rw q at a in
-    cc
+  used-none : eqb count 0 ≡ true → seriesAnswer s offset count kinds payloads ≡ gives n → 0 ≡ n
+  unfolding seriesAnswer choose
+  used-none q e =
+      let a = reached limit (length s) _ _ not-used e .1 in
+      let b : gives 0 ≡ gives n = rw q at a in
+      cc
 
--- and so many bytes are never as many as 2^32
-pub used-small : (s : List ℕ) (offset count kinds payloads n : ℕ) → seriesAnswer s offset count kinds payloads ≡ series.Used n → n < 2 ^ 32
-used-small s offset count kinds payloads n e = by-count (eqb count 0) refl
-  where
-    by-count : (b : Bool) → eqb count 0 ≡ b → n < 2 ^ 32
-    by-count true q = omega (arith, used-none s offset count kinds payloads n q e)
-    by-count false q = omega (arith, used-short s offset count kinds payloads n e, used-within s offset count kinds payloads n (eqb-false count 0 q) e)
+  pub used-small : UsedSmall s offset count kinds payloads n
+  used-small e = by-count (eqb count 0) refl
+    where
+      by-count : (b : Bool) → eqb count 0 ≡ b → n < 2 ^ 32
+      by-count true q = omega (arith, used-none q e)
+      by-count false q = omega (arith, used-short e, used-within (eqb-false count 0 q) e)
