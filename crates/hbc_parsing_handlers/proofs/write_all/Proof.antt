@@ -37,7 +37,9 @@ loop-less : tie.Need-loop-less Inv-loop μ-loop
 loop-less c = search needs
 
 loop-again : tie.Need-loop-again Inv-loop μ-loop
-loop-again c = (omega arith, handled-more (c .before .before .before .before .before .before .before .loop .inv .1) (c .before .before .before .before .before .shown .ensures) (c .before .before .write-one .ensures))
+loop-again c =
+    let found = c .before .before .before .before .before in
+    (omega arith, handled-more (found .before .before .loop .inv .1) (found .shown .ensures) (c .before .before .write-one .ensures))
 
 same-length : tie.Need-same-length Inv-loop μ-loop
 same-length c = handled-length (c .before .loop .inv .1)

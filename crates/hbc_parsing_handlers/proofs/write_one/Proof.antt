@@ -58,7 +58,9 @@ loop-again : tie.Need-loop-again Inv-loop μ-loop
 loop-again c =
     let turn = c .before .before .before .before .before in
     let head = turn .before .before .before .before .loop in
-    (omega arith, rowed-more (head .inv .1) (omega arith) (turn .before .before .u32-at .ensures) (turn .before .u32-at2 .ensures) (turn .u32-at3 .ensures) (c .before .before .put-row .ensures))
+    let start = turn .before .before .u32-at .ensures in
+    let end = turn .before .u32-at2 .ensures in
+    (omega arith, rowed-more (head .inv .1) (omega arith) start end (turn .u32-at3 .ensures) (c .before .before .put-row .ensures))
 
 same-length : tie.Need-same-length Inv-loop μ-loop
 same-length c = rowed-length (c .before .loop .inv .1)
