@@ -9,14 +9,16 @@ use lib.ListN.{length}
 use lib.Dec.{eqb}
 use borrow.Author.Tests.{eqb-true, eqb-false}
 use Rattle.hbc_io.specs.declared.Refusal.{Refusal}
-use Rattle.hbc_header.specs.declared.Layout.{Layout}
-use Rattle.hbc_header.specs.declared.Record.{Record}
+use Rattle.hbc_function_record.specs.declared.Layout.{Layout}
+use Rattle.hbc_function_record.specs.declared.Record.{Record}
 use Rattle.hbc_io.specs.Answer.{Answer, gives, refuses, asked}
-use Rattle.hbc_header.specs.Header.{sizeOf, functionAt}
+use Rattle.hbc_function_record.specs.Record.{sizeOf}
+use Rattle.hbc_function_header.specs.Header.{functionAt}
 use Rattle.hbc_function.specs.Table.{counted, step, scan, all}
 use Rattle.hbc_function.specs.Refresh.{held}
 use Rattle.hbc_function.proofs.Laws.{size-pos}
-use Rattle.hbc_claims_function.specs.Function.{ends}
+use Rattle.hbc_claims_function.proofs.Function.{ends}
+use Rattle.hbc_claims_function.specs.Tables.{countOf}
 
 pub no-gives : {A : Type 0} {x : Refusal} {a : A} → refuses x ≡ gives a → ⊥
 no-gives e = let z : _≡_ {A = ℕ} 0 1 = cc in omega arith
@@ -47,11 +49,6 @@ step-count : (b : Bool) (n k : ℕ) (a : Answer Record) → step b (gives n) a �
 unfolding step
 step-count false n k a e = cc
 step-count true n k a e = counted-read n k a e .1
-
--- how many functions below n are chosen
-unfoldable pub countOf : (ℕ → Bool) → ℕ → ℕ
-countOf chosen zero = 0
-countOf chosen (suc n) = cond (chosen n) (countOf chosen n + 1) (countOf chosen n)
 
 count-step : (b : Bool) (m n : ℕ) → m ≤ n → cond b (m + 1) m ≤ suc n
 count-step true m n h = omega arith

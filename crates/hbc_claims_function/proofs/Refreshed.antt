@@ -1,4 +1,4 @@
--- Demand 3: a table read from a, then refreshed with b, which is the same outside the span, is as a fresh read of b would be, in answer and in every word.
+-- A table read from a, then refreshed with b, which is the same outside the span, is as a fresh read of b would be, in answer and in every word.
 use Prim.Native.Nat.{ℕ, _+_, _*_, _/_, _%_, _≤_, _<_}
 use mathlib.Core.Path.{_≡_, refl, ap, sym, _∙_}
 use mathlib.Core.List.{List}
@@ -9,26 +9,26 @@ use lib.Seq.{ext-getD}
 use lib.Dec.{ltb}
 use borrow.Author.Tests.{ltb-true, ltb-false}
 use Rattle.hbc_io.specs.Outcome.{limit}
-use Rattle.hbc_io.specs.declared.Refusal.{Refusal}
-use Rattle.hbc_header.specs.declared.Layout.{Layout}
-use Rattle.hbc_header.specs.declared.Record.{Record}
-use Rattle.hbc_header.specs.declared.Reading.{Reading}
-use Rattle.hbc_header.specs.declared.Reading.the-variants as reading
-use Rattle.hbc_io.specs.Answer.{Answer, gives, refuses, asked}
-use Rattle.hbc_header.specs.Answer.{saysReading}
-use Rattle.hbc_header.specs.Header.{functionAt}
-use Rattle.hbc_header.specs.Row.{width}
-use Rattle.hbc_header_ground.specs.Meets.{meets}
+use Rattle.hbc_function_record.specs.declared.Layout.{Layout}
+use Rattle.hbc_function_record.specs.declared.Record.{Record}
+use Rattle.hbc_function_header.specs.declared.Reading.{Reading}
+use Rattle.hbc_function_header.specs.declared.Reading.the-variants as reading
+use Rattle.hbc_io.specs.Answer.{Answer, gives, asked}
+use Rattle.hbc_function_header.specs.Header.{saysReading}
+use Rattle.hbc_function_header.specs.Header.{functionAt}
+use Rattle.hbc_function_record.specs.Row.{width}
+use Rattle.hbc_function_header.specs.Meets.{meets}
 use Rattle.hbc_function.specs.declared.Refreshed.{Refreshed}
 use Rattle.hbc_function.specs.declared.Refreshed.the-variants as refreshed
 use Rattle.hbc_function.specs.Table.{scan, putRows, all, readAnswer, ReadFunctions}
 use Rattle.hbc_function.specs.Refresh.{saysRefreshed, held, refreshAnswer, RefreshFunctions}
-use Rattle.hbc_function.proofs.Laws.{scanned, met}
+use Rattle.hbc_function.proofs.Laws.{put-length, scanned, met}
 use Rattle.hbc_claims_function.specs.Agree.{Same}
-use Rattle.hbc_claims_function.specs.Function.{function-same}
-use Rattle.hbc_claims_function.specs.Words.{wordOf, wordAfter, after-put, after-not, after-behind, rows-long, rows-word}
-use Rattle.hbc_claims_function.specs.Scans.{no-gives, scan-each, alike, all-held}
-use Rattle.hbc_claims_function.specs.Accepted.{accepted, refreshable, was-read, was-done, was-left}
+use Rattle.hbc_claims_function.proofs.Function.{function-same}
+use Rattle.hbc_claims_function.proofs.Words.{word-at, word-kept, word-past}
+use Rattle.hbc_claims_function.proofs.Scans.{no-gives, a-record, scan-each, alike, all-held}
+use Rattle.hbc_claims_function.proofs.Accepted.{accepted, refreshable}
+use Rattle.hbc_claims_function.specs.Refreshed.{AsFresh}
 
 -- ---- the answers
 
@@ -51,58 +51,41 @@ same-answer {a} {b} {low} {high} v l h layout start count words e =
 
 -- ---- the tables
 
-word-read : (a : Answer Record) (c x y : ℕ) → asked a ≡ gives tt → wordOf a c x ≡ wordOf a c y
-word-read (gives r) c x y e = refl
-word-read (refuses z) c x y e = absurd (no-gives e)
-
--- fa's rows, and over them the chosen of fb's, are fb's rows, where fa and fb are the same but for the chosen
-module _ (chosen : ℕ → Bool) (fa fb : ℕ → Answer Record) (same : (i : ℕ) → chosen i ≡ false → fa i ≡ fb i) (n k : ℕ) (e : scan chosen fb n ≡ gives k)
-    (t : List ℕ) (h : n * width ≤ length t) where
+-- fa's rows, and over them the chosen of fb's, are fb's rows, where fa and fb are the same but for the chosen, and all that is put can be read
+module _ (chosen : ℕ → Bool) (fa fb : ℕ → Answer Record) (same : (i : ℕ) → chosen i ≡ false → fa i ≡ fb i) (n k m : ℕ) (e : scan chosen fb n ≡ gives k)
+    (all-read : scan all fa n ≡ gives m) (t : List ℕ) (h : n * width ≤ length t) where
   over-long : n * width ≤ length (putRows all fa t n)
-  over-long = rw (rows-long all fa t n h) h
+  over-long = rw (put-length all fa t n) h
 
-  over-by : (i c : ℕ) → c < width → (lt : Bool) → ltb i n ≡ lt → (m : Bool) → chosen i ≡ m
-      → wordAfter chosen fb (putRows all fa t n) n i c ≡ wordAfter all fb t n i c
-  over-by i c q false l m p =
-      after-behind chosen fb (putRows all fa t n) n i c (ltb-false i n l) ∙ rows-word all fa t n h i c q
-      ∙ after-behind all fa t n i c (ltb-false i n l) ∙ sym (after-behind all fb t n i c (ltb-false i n l))
+  over-by : (i c : ℕ) → c < width → (lt : Bool) → ltb i n ≡ lt → (b : Bool) → chosen i ≡ b
+      → getD (putRows chosen fb (putRows all fa t n) n) (i * width + c) 0 ≡ getD (putRows all fb t n) (i * width + c) 0
+  over-by i c q false l b p =
+      let o : n ≤ i = ltb-false i n l in
+      word-past chosen fb (putRows all fa t n) n i c q o ∙ word-past all fa t n i c q o ∙ sym (word-past all fb t n i c q o)
   over-by i c q true l true p =
-      after-put chosen fb (putRows all fa t n) n i c (ltb-true i n l) p
-      ∙ word-read (fb i) c _ _ (scan-each chosen fb n k i (ltb-true i n l) e p)
-      ∙ sym (after-put all fb t n i c (ltb-true i n l) refl)
+      let o : i < n = ltb-true i n l in
+      let r = a-record (fb i) (scan-each chosen fb n k i o e p) in
+      word-at chosen fb (putRows all fa t n) n i c (r .0) over-long o q p (r .1) ∙ sym (word-at all fb t n i c (r .0) h o q refl (r .1))
   over-by i c q true l false p =
-      after-not chosen fb (putRows all fa t n) n i c p ∙ rows-word all fa t n h i c q ∙ after-put all fa t n i c (ltb-true i n l) refl
-      ∙ ap (λ (x : Answer Record). wordOf x c (getD t (i * width + c) 0)) (same i p)
-      ∙ sym (after-put all fb t n i c (ltb-true i n l) refl)
+      let o : i < n = ltb-true i n l in
+      let r = a-record (fa i) (scan-each all fa n m i o all-read refl) in
+      word-kept chosen fb (putRows all fa t n) n i c q p ∙ word-at all fa t n i c (r .0) h o q refl (r .1)
+      ∙ sym (word-at all fb t n i c (r .0) h o q refl (sym (same i p) ∙ r .1))
 
   over-word : (j : ℕ) → getD (putRows chosen fb (putRows all fa t n) n) j 0 ≡ getD (putRows all fb t n) j 0
   over-word j =
       let i : ℕ = j / width in
       let c : ℕ = j % width in
       let q : j ≡ i * width + c = omega arith in
-      let l : c < width = omega arith in
-      ap (λ (x : ℕ). getD (putRows chosen fb (putRows all fa t n) n) x 0) q
-      ∙ rows-word chosen fb (putRows all fa t n) n over-long i c l
-      ∙ over-by i c l (ltb i n) refl (chosen i) refl
-      ∙ sym (rows-word all fb t n h i c l)
-      ∙ ap (λ (x : ℕ). getD (putRows all fb t n) x 0) (sym q)
+      rw q (over-by i c (omega arith) (ltb i n) refl (chosen i) refl)
 
   pub over : putRows chosen fb (putRows all fa t n) n ≡ putRows all fb t n
   over =
       ext-getD 0 (putRows chosen fb (putRows all fa t n) n) (putRows all fb t n)
-      (rows-long chosen fb (putRows all fa t n) n over-long ∙ rows-long all fa t n h ∙ sym (rows-long all fb t n h))
+      (put-length chosen fb (putRows all fa t n) n ∙ put-length all fa t n ∙ sym (put-length all fb t n))
       (λ j l. over-word j)
 
 -- ---- the theorem, over the promises alone
-
--- r and t₂ are a fresh read's of b, q and t₃ the refresh's, t₁ the table that was refreshed
-pub record AsFresh (r : Reading) (t₂ t₁ : List ℕ) (q : Refreshed) (t₃ : List ℕ) : Type 0 where
-  -- where the fresh read is accepted the refresh is, and leaves the fresh table; where it refuses, the refresh refuses with its number and place and leaves the table
-  pub when-read : r ≡ reading.Read → (n : ℕ) × (q ≡ refreshed.Done n) × (t₃ ≡ t₂)
-  pub when-refused : (x : Refusal) → r ≡ reading.Refused x → (q ≡ refreshed.Refused x) × (t₃ ≡ t₁)
-  -- and the other way round
-  pub only-read : (n : ℕ) → q ≡ refreshed.Done n → r ≡ reading.Read
-  pub only-refused : (x : Refusal) → q ≡ refreshed.Refused x → r ≡ reading.Refused x
 
 module _ {a b : List ℕ} {low high : ℕ} (v : Same a b low high) (layout : Layout) (start count : ℕ) {t t₁ t₂ t₃ : List ℕ}
     (p : ReadFunctions a layout start count t reading.Read t₁) where
@@ -110,9 +93,9 @@ module _ {a b : List ℕ} {low high : ℕ} (v : Same a b low high) (layout : Lay
   refreshed-is {n} f g =
       let x = accepted a layout start count (length t) (sym (p .says)) in
       let y = refreshable b layout start count low high (length t₁) n (sym (g .says)) in
-      was-done g ∙ ap (λ (u : List ℕ). putRows (meets b layout start low high) (functionAt b layout start) u count) (was-read p)
-      ∙ over (meets b layout start low high) (functionAt a layout start) (functionAt b layout start) (λ i m. function-same v i layout start m) count n (y .scans) t (x .holds)
-      ∙ sym (was-read f)
+      g .leaves ∙ ap (λ (u : List ℕ). putRows (meets b layout start low high) (functionAt b layout start) u count) (p .leaves)
+      ∙ over (meets b layout start low high) (functionAt a layout start) (functionAt b layout start) (λ i m. function-same v i layout start m) count n (x .number) (y .scans) (x .scans) t (x .holds)
+      ∙ sym (f .leaves)
 
   by-case : (r : Reading) (q : Refreshed) → saysReading r ≡ asked (saysRefreshed q) → ReadFunctions b layout start count t r t₂
       → RefreshFunctions b layout start count low high t₁ q t₃ → AsFresh r t₂ t₁ q t₃
@@ -124,7 +107,7 @@ module _ {a b : List ℕ} {low high : ℕ} (v : Same a b low high) (layout : Lay
   }
   by-case (reading.Refused y) (refreshed.Refused w) e f g = record {
     when-read = λ h. let z : _≡_ {A = ℕ} 0 1 = cc in absurd (omega arith);
-    when-refused = λ x h. (cc, was-left g);
+    when-refused = λ x h. (cc, g .leaves);
     only-read = λ m h. let z : _≡_ {A = ℕ} 0 1 = cc in absurd (omega arith);
     only-refused = λ x h. cc;
   }
@@ -136,10 +119,10 @@ module _ {a b : List ℕ} {low high : ℕ} (v : Same a b low high) (layout : Lay
       → RefreshFunctions b layout start count low high t₁ q t₃ → saysReading r ≡ asked (saysRefreshed q)
   answers l h f g =
       let x = accepted a layout start count (length t) (sym (p .says)) in
-      let n : length t₁ ≡ length t = ap length (was-read p) ∙ rows-long all (functionAt a layout start) t count (x .holds) in
+      let n : length t₁ ≡ length t = ap length (p .leaves) ∙ put-length all (functionAt a layout start) t count in
       f .says ∙ same-answer v l h layout start count (length t) (sym (p .says))
       ∙ ap (λ (m : ℕ). asked (refreshAnswer b layout start count low high m)) (sym n) ∙ ap asked (sym (g .says))
 
-  pub demand3 : {r : Reading} {q : Refreshed} → low ≤ high → high ≤ length b → ReadFunctions b layout start count t r t₂
+  pub refreshed-as-fresh : {r : Reading} {q : Refreshed} → low ≤ high → high ≤ length b → ReadFunctions b layout start count t r t₂
       → RefreshFunctions b layout start count low high t₁ q t₃ → AsFresh r t₂ t₁ q t₃
-  demand3 {r} {q} l h f g = by-case r q (answers l h f g) f g
+  refreshed-as-fresh {r} {q} l h f g = by-case r q (answers l h f g) f g

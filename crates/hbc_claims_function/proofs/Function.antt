@@ -8,25 +8,27 @@ use native.Mathlib.Nat.{le-refl}
 use lib.ListN.{length}
 use lib.Dec.{ltb}
 use borrow.Author.Tests.{ltb-false}
+use Rattle.hbc_io.specs.Lends.{below, choose}
 use Rattle.hbc_bits.specs.Bits.{leAt}
-use Rattle.hbc_header.specs.declared.Layout.{Layout}
-use Rattle.hbc_header.specs.declared.Layout.the-variants as lay
-use Rattle.hbc_header.specs.declared.Legacy.{Legacy}
-use Rattle.hbc_header.specs.declared.Modern.{Modern}
-use Rattle.hbc_header.specs.declared.Record.{Record}
-use Rattle.hbc_header.specs.declared.Record.the-variants as rec
-use Rattle.hbc_header.specs.declared.Ground.{Ground}
-use Rattle.hbc_header.specs.declared.Ground.the-variants as ground
-use Rattle.hbc_header.specs.declared.Where.{Where}
-use Rattle.hbc_header.specs.declared.Where.the-variants as wh
+use Rattle.hbc_function_record.specs.declared.Layout.{Layout}
+use Rattle.hbc_function_record.specs.declared.Layout.the-variants as lay
+use Rattle.hbc_function_record.specs.declared.Legacy.{Legacy}
+use Rattle.hbc_function_record.specs.declared.Modern.{Modern}
+use Rattle.hbc_function_record.specs.declared.Record.{Record}
+use Rattle.hbc_function_record.specs.declared.Record.the-variants as rec
+use Rattle.hbc_function_header.specs.declared.Ground.{Ground}
+use Rattle.hbc_function_header.specs.declared.Ground.the-variants as ground
+use Rattle.hbc_function_header.specs.declared.Where.{Where}
+use Rattle.hbc_function_header.specs.declared.Where.the-variants as wh
 use Rattle.hbc_io.specs.Answer.{Answer, gives, asked}
-use Rattle.hbc_header.specs.Record.{legacyOf, modernOf, legacyLarge, modernLarge, overflowed, legacyPlace, modernPlace}
-use Rattle.hbc_header.specs.Header.{sizeOf, headerAt, groundBy, legacyGround, modernGround, groundAt, whereOf, legacyWhere, modernWhere, legacyFound, modernFound, legacyAt, modernAt, functionAt}
-use Rattle.hbc_header_ground.specs.Meets.{overlap, groundMeets, meets}
-use Rattle.hbc_claims_function.specs.Agree.{Agree, Same, agrees, same-num}
+use Rattle.hbc_function_record.specs.Record.{sizeOf, largeOf, inlineOf, largeAt, flagsOf, placeOf, legacyLarge, modernLarge, overflowed}
+use Rattle.hbc_function_header.specs.Header.{headerAt, groundBy, groundOf, groundAt, whereOf, whereAt, found, recordAt, functionAt}
+use Rattle.hbc_function_header.specs.Meets.{overlap, groundMeets, meets}
+use Rattle.hbc_claims_function.specs.Agree.{Agree, Same}
+use Rattle.hbc_claims_function.proofs.Agree.{agrees, same-num}
 
 module _ (a b : List ℕ) (at i : ℕ) where
-  legacy-large : Agree a b at (at + 31) → legacyLarge a at i ≡ legacyLarge b at i
+  legacy-large : Agree a b at (at + largeOf lay.Legacy16) → legacyLarge a at i ≡ legacyLarge b at i
   unfolding legacyLarge
   legacy-large v = λ j. record {
     id = i;
@@ -42,7 +44,7 @@ module _ (a b : List ℕ) (at i : ℕ) where
     flags = same-num v (at + 30) 1 (omega arith) (omega arith) j;
   }
 
-  modern-large : Agree a b at (at + 37) → modernLarge a at i ≡ modernLarge b at i
+  modern-large : Agree a b at (at + largeOf lay.Modern12) → modernLarge a at i ≡ modernLarge b at i
   unfolding modernLarge
   modern-large v = λ j. record {
     id = i;
@@ -59,8 +61,13 @@ module _ (a b : List ℕ) (at i : ℕ) where
     «new_object» = same-num v (at + 34) 1 (omega arith) (omega arith) j;
     «private_name» = same-num v (at + 35) 1 (omega arith) (omega arith) j;
     flags = same-num v (at + 36) 1 (omega arith) (omega arith) j;
-    «info_offset» = (at + 37 + 3) / 4 * 4;
+    «info_offset» = (at + largeOf lay.Modern12 + 3) / 4 * 4;
   }
+
+large-same : (a b : List ℕ) (layout : Layout) (at i : ℕ) → Agree a b at (at + largeOf layout) → largeAt a layout at i ≡ largeAt b layout at i
+unfolding largeAt
+large-same a b lay.Legacy16 at i v = ap rec.Legacy (legacy-large a b at i v)
+large-same a b lay.Modern12 at i v = ap rec.Modern (modern-large a b at i v)
 
 -- what a choice that came out false says
 or-left : (p q : Bool) → cond p true q ≡ false → p ≡ false
@@ -88,12 +95,12 @@ module _ (s : List ℕ) (n m low high : ℕ) (fa fb : Where → Answer Record) (
 
   same-found : (flag : Bool) → groundMeets n m low high (cond flag (ground.Large at place) (ground.Inline at)) ≡ false
       → fa (whereOf s m (cond flag (ground.Large at place) (ground.Inline at))) ≡ fb (whereOf s m (cond flag (ground.Large at place) (ground.Inline at)))
-  unfolding groundMeets whereOf
+  unfolding groundMeets whereOf below
   same-found false o = here
   same-found true o = same-large (ltb (length s) place) (ltb (length s) (place + m)) (or-right (overlap at n low high) (overlap place m low high) o)
 
 where-same : (a b : List ℕ) (m : ℕ) (g : Ground) → length a ≡ length b → whereOf a m g ≡ whereOf b m g
-unfolding whereOf
+unfolding whereOf below
 where-same a b m ground.None e = refl
 where-same a b m (ground.Inline at) e = refl
 where-same a b m (ground.Large at place) e = rw e
@@ -103,12 +110,12 @@ where-same a b m (ground.Large at place) e = rw e
 module _ {a b : List ℕ} {low high : ℕ} (v : Same a b low high) (n m at : ℕ) (flag : ℕ → Bool) (place : ℕ → ℕ) (found : List ℕ → Where → Answer Record)
     (here : leAt a at n ≡ leAt b at n → found a wh.Inline ≡ found b wh.Inline) (there : (p : ℕ) → Agree a b p (p + m) → found a (wh.Large p) ≡ found b (wh.Large p))
     (nowhere : (k : ℕ) → found a (wh.Refused k) ≡ found b (wh.Refused k)) where
-  abbrev groundOf : List ℕ → Ground
-  groundOf s = groundBy s at n (flag (leAt s at n)) (place (leAt s at n))
+  abbrev groundFor : List ℕ → Ground
+  groundFor s = groundBy s at n (flag (leAt s at n)) (place (leAt s at n))
 
   -- by whether the header runs past the end
-  same-by : (cut : Bool) → ltb (length b) (at + n) ≡ cut → groundMeets n m low high (groundOf b) ≡ false → found a (whereOf a m (groundOf a)) ≡ found b (whereOf b m (groundOf b))
-  unfolding groundBy whereOf
+  same-by : (cut : Bool) → ltb (length b) (at + n) ≡ cut → groundMeets n m low high (groundFor b) ≡ false → found a (whereOf a m (groundFor a)) ≡ found b (whereOf b m (groundFor b))
+  unfolding groundBy whereOf below choose
   same-by true c o = rw (v .long, c) (nowhere 3)
   same-by false c o =
       let p = place (leAt b at n) in
@@ -116,52 +123,34 @@ module _ {a b : List ℕ} {low high : ℕ} (v : Same a b low high) (n m at : ℕ
       let g = cond f (ground.Large at p) (ground.Inline at) in
       let q : groundMeets n m low high g ≡ false = rw c at o in
       let e : leAt a at n ≡ leAt b at n = same-num (agrees v at n (own-apart n m low high at p f q)) at n (le-refl at) (le-refl (at + n)) in
-      let h : groundOf a ≡ g = rw (v .long, c, e) in
-      let k : groundOf b ≡ g = rw c in
+      let h : groundFor a ≡ g = rw (v .long, c, e) in
+      let k : groundFor b ≡ g = rw c in
       ap (λ (x : Ground). found a (whereOf a m x)) h
       ∙ ap (found a) (where-same a b m g (v .long))
       ∙ same-found b n m low high (found a) (found b) at p (here e) (λ w. there p (agrees v p m w)) nowhere f q
       ∙ ap (λ (x : Ground). found b (whereOf b m x)) (sym k)
 
-module _ {a b : List ℕ} {low high : ℕ} (v : Same a b low high) (i : ℕ) where
-  legacy-same : (at : ℕ) → groundMeets 16 31 low high (legacyGround b at) ≡ false → legacyAt a at i ≡ legacyAt b at i
-  unfolding legacyAt legacyWhere legacyGround
-  legacy-same at o =
-      same-by v 16 31 at (λ n. overflowed (legacyOf 0 n .flags)) (λ n. legacyPlace (legacyOf 0 n)) (λ s. legacyFound s at i)
-      (ap (λ (n : ℕ). gives (rec.Legacy (legacyOf i n))))
-      (λ p w. ap (λ (x : Legacy). gives (rec.Legacy x)) (legacy-large a b p i w))
-      (λ k. refl) (ltb (length b) (at + 16)) refl o
+module _ {a b : List ℕ} {low high : ℕ} (v : Same a b low high) (i : ℕ) (layout : Layout) where
+  record-same : (at : ℕ) → groundMeets (sizeOf layout) (largeOf layout) low high (groundOf b layout at) ≡ false → recordAt a layout at i ≡ recordAt b layout at i
+  unfolding recordAt whereAt groundOf
+  record-same at o =
+      same-by v (sizeOf layout) (largeOf layout) at (λ n. overflowed (flagsOf (inlineOf layout 0 n))) (λ n. placeOf (inlineOf layout 0 n)) (λ s. found s layout at i)
+      (ap (λ (n : ℕ). gives (inlineOf layout i n))) (λ p w. ap gives (large-same a b layout p i w)) (λ k. refl) (ltb (length b) (at + sizeOf layout)) refl o
 
-  modern-same : (at : ℕ) → groundMeets 12 37 low high (modernGround b at) ≡ false → modernAt a at i ≡ modernAt b at i
-  unfolding modernAt modernWhere modernGround
-  modern-same at o =
-      same-by v 12 37 at (λ n. overflowed (modernOf 0 n .flags)) (λ n. modernPlace (modernOf 0 n)) (λ s. modernFound s at i)
-      (ap (λ (n : ℕ). gives (rec.Modern (modernOf i n))))
-      (λ p w. ap (λ (x : Modern). gives (rec.Modern x)) (modern-large a b p i w))
-      (λ k. refl) (ltb (length b) (at + 12)) refl o
-
-  pub function-same : (layout : Layout) (start : ℕ) → meets b layout start low high i ≡ false → functionAt a layout start i ≡ functionAt b layout start i
+  pub function-same : (start : ℕ) → meets b layout start low high i ≡ false → functionAt a layout start i ≡ functionAt b layout start i
   unfolding meets groundAt functionAt
-  function-same lay.Legacy16 start m = legacy-same (start + i * 16) m
-  function-same lay.Modern12 start m = modern-same (start + i * 12) m
+  function-same start m = record-same (headerAt layout start i) m
 
 -- ---- a function that is read has its header in the file
 
-legacy-ends : (s : List ℕ) (at i : ℕ) (cut : Bool) → ltb (length s) (at + 16) ≡ cut → asked (legacyAt s at i) ≡ gives tt → at + 16 ≤ length s
-unfolding legacyAt legacyWhere legacyGround groundBy whereOf
-legacy-ends s at i true c e =
-    let f : asked (legacyFound s at i (wh.Refused 3)) ≡ gives tt = rw c at e in
+ends-by : (s : List ℕ) (layout : Layout) (at i : ℕ) (cut : Bool) → ltb (length s) (at + sizeOf layout) ≡ cut → asked (recordAt s layout at i) ≡ gives tt
+    → at + sizeOf layout ≤ length s
+unfolding recordAt whereAt groundOf groundBy whereOf below
+ends-by s layout at i true c e =
+    let f : asked (found s layout at i (wh.Refused 3)) ≡ gives tt = rw c at e in
     let z : _≡_ {A = ℕ} 0 1 = cc in absurd (omega arith)
-legacy-ends s at i false c e = ltb-false _ _ c
-
-modern-ends : (s : List ℕ) (at i : ℕ) (cut : Bool) → ltb (length s) (at + 12) ≡ cut → asked (modernAt s at i) ≡ gives tt → at + 12 ≤ length s
-unfolding modernAt modernWhere modernGround groundBy whereOf
-modern-ends s at i true c e =
-    let f : asked (modernFound s at i (wh.Refused 3)) ≡ gives tt = rw c at e in
-    let z : _≡_ {A = ℕ} 0 1 = cc in absurd (omega arith)
-modern-ends s at i false c e = ltb-false _ _ c
+ends-by s layout at i false c e = ltb-false _ _ c
 
 pub ends : (s : List ℕ) (layout : Layout) (start i : ℕ) → asked (functionAt s layout start i) ≡ gives tt → headerAt layout start i + sizeOf layout ≤ length s
 unfolding functionAt
-ends s lay.Legacy16 start i e = legacy-ends s (start + i * 16) i (ltb (length s) (start + i * 16 + 16)) refl e
-ends s lay.Modern12 start i e = modern-ends s (start + i * 12) i (ltb (length s) (start + i * 12 + 12)) refl e
+ends s layout start i e = ends-by s layout (headerAt layout start i) i (ltb (length s) (headerAt layout start i + sizeOf layout)) refl e
