@@ -10,11 +10,13 @@ use lib.ListN.{length}
 use lib.Dec.{ltb, leb}
 use borrow.Author.Tests.{ltb-true, ltb-false, le-leb, lt-leb}
 use Rattle.hbc_io.specs.declared.Refusal.{Refusal}
-use Rattle.hbc_header.specs.declared.Record.{Record}
+use Rattle.hbc_rows.specs.Rows as rows
+use Rattle.hbc_function_record.specs.declared.Record.{Record}
+use Rattle.hbc_function_record.specs.Row.{width}
 use Rattle.hbc_io.specs.Answer.{Answer, gives, refuses, asked}
-use Rattle.hbc_function.specs.Table.{counted, step, scan, putRow, putRows, all}
-use Rattle.hbc_function.specs.Next.{Skipped, Next}
-use Rattle.hbc_function.proofs.Laws.{step-read, step-refused, scan-more, scan-stops, scan-done, Put, put-more}
+use Rattle.hbc_function.specs.Table.{counted, step, scan, rowBy, putRows, all}
+use Rattle.hbc_function.specs.Private.{Skipped, Next}
+use Rattle.hbc_function.proofs.Laws.{step-read, step-refused, scan-more, scan-stops, scan-done, put-none, put-next, put-skip, Put, put-more}
 
 -- ---- one function more that is not chosen
 
@@ -46,30 +48,24 @@ module _ {chosen : ℕ → Bool} (f : ℕ → Answer Record) {from count r : ℕ
   unfolding scan step
   scan-next e = same (scan chosen f) (λ k p. rw p) (v .skipped) ∙ e
 
-  pub put-next : (t : List ℕ) → putRows chosen f t r ≡ putRows chosen f t from
-  unfolding putRows
-  put-next t = same (putRows chosen f t) (λ k p. rw p) (v .skipped)
+  pub put-same : (t : List ℕ) → putRows chosen f t r ≡ putRows chosen f t from
+  put-same t = same (putRows chosen f t) (put-skip chosen f t) (v .skipped)
 
 -- ---- rows from one on
 
 module _ (f : ℕ → Answer Record) (t : List ℕ) (i : ℕ) where
-  pub put-below : putRows (leb i) f t i ≡ t
-  unfolding putRows
-  put-below =
-      let v : Skipped (leb i) 0 i i = record { after = omega arith; within = omega arith; none = λ k p q. lt-leb i k q } in
-      same (putRows (leb i) f t) (λ k p. rw p) v
-
   pub put-from : Put (leb i) f i t t
-  put-from = record { is = sym put-below; long = refl }
+  put-from =
+      let v : Skipped (leb i) 0 i i = record { after = omega arith; within = omega arith; none = λ k p q. lt-leb i k q } in
+      record { is = sym (same (putRows (leb i) f t) (put-skip (leb i) f t) v ∙ put-none (leb i) f t) }
 
-  pub put-one : putRows (leb i) f t (i + 1) ≡ putRow i (f i) t
-  unfolding putRows
-  put-one = rw (add-one, le-leb i i (omega arith)) (ap (putRow i (f i)) put-below)
+  pub put-one : putRows (leb i) f t (i + 1) ≡ rows.putRow width t i (rowBy (f i))
+  put-one = sym (put-more put-from (le-leb i i (omega arith)) refl .is)
 
 pub put-whole : (f : ℕ → Answer Record) (t : List ℕ) (n : ℕ) → putRows (leb 0) f t n ≡ putRows all f t n
-unfolding putRows
-put-whole f t zero = refl
-put-whole f t (suc n) = rw (le-leb 0 n (omega arith)) (ap (putRow n (f n)) (put-whole f t n))
+put-whole f t zero = put-none (leb 0) f t ∙ sym (put-none all f t)
+put-whole f t (suc n) =
+    put-next (leb 0) f t n (le-leb 0 n (omega arith)) ∙ ap (λ (u : List ℕ). rows.putRow width u n (rowBy (f n))) (put-whole f t n) ∙ sym (put-next all f t n refl)
 
 -- ---- once as many are counted as there are, no more rows are put
 
@@ -88,8 +84,8 @@ module _ (chosen : ℕ → Bool) (f : ℕ → Answer Record) (t : List ℕ) (i n
 
   rest-step : (m k : ℕ) (b : Bool) (o : Answer ℕ) → chosen m ≡ b → scan chosen f m ≡ o → ((j : ℕ) → scan chosen f m ≡ gives j → Rest chosen f t i n m j)
       → step b o (f m) ≡ gives k → Rest chosen f t i n (suc m) k
-  unfolding step putRows
-  rest-step m k false o c d p e = let v = p k (d ∙ e) in record { more = v .more; same-put = λ q. rw c (v .same-put q) }
+  unfolding step
+  rest-step m k false o c d p e = let v = p k (d ∙ e) in record { more = v .more; same-put = λ q. put-skip chosen f t m c ∙ v .same-put q }
   rest-step m k true (gives j) c d p e = rest-chosen m k j (f m) (p j d) e
   rest-step m k true (refuses x) c d p e = let z : _≡_ {A = ℕ} 0 1 = cc in absurd (omega arith)
 
@@ -147,10 +143,10 @@ pub record Patched (chosen : ℕ → Bool) (f : ℕ → Answer Record) (count n 
 
 module _ {chosen : ℕ → Bool} {f : ℕ → Answer Record} {count n : ℕ} {t₀ : List ℕ} where
   pub patch-first : {r : ℕ} → Next chosen 0 count r → Patched chosen f count n n r t₀ t₀
-  unfolding scan putRows
+  unfolding scan
   patch-first v =
       let q : 0 ≡ n - n = omega arith in
-      record { within = v .skipped .within; fits = omega arith; found = scan-next f v (ap gives q); put = record { is = sym (put-next f v t₀); long = refl } }
+      record { within = v .skipped .within; fits = omega arith; found = scan-next f v (ap gives q); put = record { is = sym (put-same f v t₀ ∙ put-none chosen f t₀) } }
 
   module _ {left i : ℕ} {t : List ℕ} (w : Patched chosen f count n left i t₀ t) (d : scan chosen f count ≡ gives n) where
     in-by : (r : ℕ) (b : Bool) → ltb r count ≡ b → 0 < left → Next chosen i count r → r < count
@@ -163,16 +159,16 @@ module _ {chosen : ℕ → Bool} {f : ℕ → Answer Record} {count n : ℕ} {t�
     pub patch-in : {r : ℕ} → 0 < left → Next chosen i count r → r < count
     patch-in {r} h v = in-by r (ltb r count) refl h v
 
-    pub patch-more : {r : ℕ} {t′ : List ℕ} → 0 < left → Next chosen i count r → t′ ≡ putRow r (f r) t → length t′ ≡ length t → Patched chosen f count n (left - 1) (r + 1) t₀ t′
-    patch-more {r} {t′} h v e l =
+    pub patch-more : {r : ℕ} {t′ : List ℕ} → 0 < left → Next chosen i count r → t′ ≡ rows.putRow width t r (rowBy (f r)) → Patched chosen f count n (left - 1) (r + 1) t₀ t′
+    patch-more {r} {t′} h v e =
         let b = patch-in h v in let fit = w .fits in
         let q : n - left + 1 ≡ n - (left - 1) = omega arith in
-        let here : Put chosen f r t₀ t = record { is = w .put .is ∙ sym (put-next f v t₀); long = w .put .long } in
+        let here : Put chosen f r t₀ t = record { is = w .put .is ∙ sym (put-same f v t₀) } in
         record {
           within = omega arith;
           fits = omega arith;
           found = got-by chosen f r count n (n - left) (f r) refl b (v .met b) d (scan-next f v (w .found)) ∙ ap gives q;
-          put = put-more here (rw (v .met b) e) l;
+          put = put-more here (v .met b) e;
         }
 
     pub patch-done : left ≤ 0 → t ≡ putRows chosen f t₀ count

@@ -1,3 +1,3 @@
 pub mod Table
 pub mod Refresh
-pub mod Next
+pub mod Private
