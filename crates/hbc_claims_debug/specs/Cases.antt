@@ -10,7 +10,7 @@ use Rattle.hbc_io.specs.Plain.{spanOf, bytesAt}
 use Rattle.hbc_io_leb.specs.Leb.{lebBytes}
 use Rattle.hbc_io_strings.specs.Text.{prefixed}
 use Rattle.hbc_rows.specs.Until.{until, after}
-use Rattle.hbc_io_leb.specs.Signed.{slebAt, upTo, below, low32}
+use Rattle.hbc_io_leb.specs.Signed.{slebAt, upTo, under, low32}
 use Rattle.hbc_debug_parts.specs.Parts.{partsOf, isEmpty, noParts}
 use Rattle.hbc_debug_parts.specs.declared.FindParts.the-variants as find
 use Rattle.hbc_debug_strings.specs.Strings.{stringsOf}
@@ -29,11 +29,11 @@ scope = refl
 
 -- its row has no parent, and the name out of range is 2^32 - 1
 scope-row : scopeWords (scopesOf (127 ∷ 0 ∷ 2 ∷ 0 ∷ 3 ∷ [])) ≡ 0 ∷ 4294967295 ∷ 0 ∷ 0 ∷ 2 ∷ []
-unfolding scopesOf until after scopeAt frontAt slebAt lebBytes upTo scopeRow nameCount wordBelow below low32
+unfolding scopesOf until after scopeAt frontAt slebAt lebBytes upTo scopeRow nameCount wordBelow under low32
 scope-row = refl
 
 scope-names : nameWords 2 (scopesOf (127 ∷ 0 ∷ 2 ∷ 0 ∷ 3 ∷ [])) ≡ 0 ∷ 4294967295 ∷ []
-unfolding scopesOf until after scopeAt frontAt slebAt lebBytes upTo nameRow wordBelow below
+unfolding scopesOf until after scopeAt frontAt slebAt lebBytes upTo nameRow wordBelow under
 scope-names = refl
 
 -- which word of a row is which
@@ -64,7 +64,7 @@ module _ (first : ℕ) (x : Scope) where
 
 -- names cut after the first of two: the scope is kept, with one name: 00 01 02 01 80
 scope-cut : scopeWords (scopesOf (0 ∷ 1 ∷ 2 ∷ 1 ∷ 128 ∷ [])) ≡ 0 ∷ 0 ∷ 1 ∷ 0 ∷ 1 ∷ []
-unfolding scopesOf until after scopeAt frontAt slebAt lebBytes upTo scopeRow nameCount wordBelow below low32
+unfolding scopesOf until after scopeAt frontAt slebAt lebBytes upTo scopeRow nameCount wordBelow under low32
 scope-cut = refl
 
 -- a negative count, or one above the bytes left, ends the list: 00 00 7F, and 00 00 01
@@ -78,7 +78,7 @@ scope-above = refl
 
 -- two entries with one address, 3 of them in all: the last known name wins: 03 07 00 07 01 07 05
 callee-last : lastName 7 none (pairsOf 2 (3 ∷ 7 ∷ 0 ∷ 7 ∷ 1 ∷ 7 ∷ 5 ∷ [])) ≡ name 1
-unfolding pairsOf counterAt until pairAt pairOf slebAt lebBytes upTo below low32 lastName after1
+unfolding pairsOf counterAt until pairAt pairOf slebAt lebBytes upTo under low32 lastName after1
 callee-last = refl
 
 -- offset 0 is empty, and so is 2^32 - 1 and the end; a header that is too short is refused 3
