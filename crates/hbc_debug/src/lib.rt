@@ -64,15 +64,15 @@ fn read_parts(
         (tables (now (strings .entry)) (now (scopes .entry)) (now (names .entry)) (now (callees .entry)))
         r (tables (now (strings .exit)) (now (scopes .exit)) (now (names .exit)) (now (callees .exit))) ⌝ }
 {
-    let first = count_strings(string_part);
-    let n = first.strings;
-    let inner = count_scopes(scope_part);
-    let last = count_callees(callee_part, n as u32);
+    let string_count = count_strings(string_part);
+    let n = string_count.strings;
+    let scope_counts = count_scopes(scope_part);
+    let callee_count = count_callees(callee_part, n as u32);
     let need = Counts {
         strings: n,
-        scopes: inner.scopes,
-        names: inner.names,
-        callees: last.callees,
+        scopes: scope_counts.scopes,
+        names: scope_counts.names,
+        callees: callee_count.callees,
     };
     let room = Counts {
         strings: strings.len() / STRING_WORDS,

@@ -2,25 +2,19 @@ use borrow.Author.Tests.{le-leb, lt-leb}
 use Rattle.hbc_debug.specs.Debug.{fits}
 use Rattle.hbc_debug.proofs.fits.Statement.{statement}
 use Rattle.hbc_debug.proofs.fits.Tie as tie
-use Rattle.hbc_debug.proofs.fits.Reads as reads
-use Rattle.hbc_debug.proofs.fits.Lts as lts
 
--- src/lib.rt:45:17
 returns : tie.Need-returns
 unfolding fits
 returns c = rw (le-leb _ _ (c .before .before .before .before .before .before .before .before .if1 .taken), le-leb _ _ (c .before .before .before .before .before .if2 .taken), le-leb _ _ (c .before .before .if3 .taken))
 
--- src/lib.rt:39:1
 returns-2 : tie.Need-returns-2
 unfolding fits
 returns-2 c = rw (le-leb _ _ (c .before .before .before .before .before .before .if1 .taken), le-leb _ _ (c .before .before .before .if2 .taken), lt-leb _ _ (c .if3 .left))
 
--- src/lib.rt:39:1
 returns-3 : tie.Need-returns-3
 unfolding fits
 returns-3 c = rw (le-leb _ _ (c .before .before .before .if1 .taken), lt-leb _ _ (c .if2 .left))
 
--- src/lib.rt:39:1
 returns-4 : tie.Need-returns-4
 unfolding fits
 returns-4 c = rw (lt-leb _ _ (c .if1 .left))

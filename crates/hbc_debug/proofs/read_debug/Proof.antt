@@ -3,63 +3,48 @@ use Rattle.hbc_debug.proofs.Within.{section-refused, section-found, bas
 use borrow.Author.Needs.{needs}
 use Rattle.hbc_debug.proofs.read_debug.Statement.{statement}
 use Rattle.hbc_debug.proofs.read_debug.Tie as tie
-use Rattle.hbc_debug.proofs.read_debug.Reads as reads
-use Rattle.hbc_debug.proofs.read_debug.Lts as lts
-use Rattle.hbc_debug.proofs.read_parts.Reads as read-parts-reads
-use Rattle.hbc_debug_parts.proofs.find_parts.Reads as find-parts-reads
-use Rattle.hbc_debug_parts.proofs.part_bytes.Reads as part-bytes-reads
 
--- src/lib.rt:105:11
 find-parts-requires : tie.Need-find-parts-requires
 find-parts-requires c κs = search needs
 
--- src/lib.rt:106:29
 enum-known-r : tie.Need-enum-known-r
 enum-known-r c = search needs
 
--- src/lib.rt:107:27
 enum-known-p : tie.Need-enum-known-p
 enum-known-p c = search needs
 
--- src/lib.rt:110:17
 part-bytes-requires : tie.Need-part-bytes-requires
 part-bytes-requires c κs = search needs
 
--- src/lib.rt:111:17
 part-bytes-requires-2 : tie.Need-part-bytes-requires-2
 part-bytes-requires-2 c κs = search needs
 
--- src/lib.rt:112:17
 part-bytes-requires-3 : tie.Need-part-bytes-requires-3
 part-bytes-requires-3 c κs = search needs
 
--- src/lib.rt:113:13
 read-parts-requires : tie.Need-read-parts-requires
 read-parts-requires c κs = base-fits (now (c .before .before .before .before .before .before .before .before .before .before .before .before .before .before .before .before .before .before .args .file)) (c .before .before .before .before .before .before .before .before .before .before .before .before .before .before .before .before .before .before .args .offset) (c .before .before .before .before .before .before .before .before .before .before .before .before .find-parts .ensures) (c .before .before .before .before .before .before .before .before .before .before .p .given .1) (c .before .before .before .before .before .before .part-bytes .ensures)
 
--- src/lib.rt:93:1
 returns : tie.Need-returns
 returns c = section-refused (now (c .before .before .before .before .before .before .before .before .before .args .file)) (c .before .before .before .before .before .before .before .before .before .args .offset) _ (c .before .before .before .find-parts .ensures) (c .before .r .given .1)
 
--- src/lib.rt:93:1
 same-length : tie.Need-same-length
 same-length c = search needs
 
--- src/lib.rt:93:1
 same-length-2 : tie.Need-same-length-2
 same-length-2 c = search needs
 
--- src/lib.rt:93:1
 same-length-3 : tie.Need-same-length-3
 same-length-3 c = search needs
 
--- src/lib.rt:93:1
 same-length-4 : tie.Need-same-length-4
 same-length-4 c = search needs
 
--- src/lib.rt:93:1
 returns-2 : tie.Need-returns-2
-returns-2 c = section-found (now (c .before .before .before .before .before .before .before .before .before .before .before .before .before .before .before .before .before .before .before .before .before .before .before .before .before .before .before .args .file)) (c .before .before .before .before .before .before .before .before .before .before .before .before .before .before .before .before .before .before .before .before .before .before .before .before .before .before .before .args .offset) _ (c .before .before .before .before .before .before .before .before .before .before .before .before .before .before .before .before .before .before .before .before .before .find-parts .ensures) (c .before .before .before .before .before .before .before .before .before .before .before .before .before .before .before .before .before .before .before .p .given .1) (c .before .before .before .before .before .before .before .before .before .before .before .before .before .before .before .part-bytes .ensures) (c .before .before .before .before .before .before .before .before .before .before .before .before .before .before .part-bytes2 .ensures) (c .before .before .before .before .before .before .before .before .before .before .before .before .before .part-bytes3 .ensures) (c .before .before .before .before .before .before .before .before .read-parts .ensures)
+returns-2 c =
+    let a = c .before .before .before .before .before .before .before .before .before .before .before .before .before .before .before .before .before .before .before .before .before .before .before .before .before .before .before .args in
+    section-found (now (a .file)) (a .offset) _ (c .before .before .before .before .before .before .before .before .before .before .before .before .before .before .before .before .before .before .before .before .before .find-parts .ensures) (c .before .before .before .before .before .before .before .before .before .before .before .before .before .before .before .before .before .before .before .p .given .1)
+    (c .before .before .before .before .before .before .before .before .before .before .before .before .before .before .before .part-bytes .ensures) (c .before .before .before .before .before .before .before .before .before .before .before .before .before .before .part-bytes2 .ensures) (c .before .before .before .before .before .before .before .before .before .before .before .before .before .part-bytes3 .ensures) (c .before .before .before .before .before .before .before .before .read-parts .ensures)
 
 pub read-debug-spec : {M : Type 1} → statement M
 read-debug-spec =

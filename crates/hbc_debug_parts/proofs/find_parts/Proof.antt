@@ -4,59 +4,40 @@ use Rattle.hbc_debug_parts.proofs.Cases.{refused-1, found-none, offset-
 use borrow.Author.Needs.{needs}
 use Rattle.hbc_debug_parts.proofs.find_parts.Statement.{statement}
 use Rattle.hbc_debug_parts.proofs.find_parts.Tie as tie
-use Rattle.hbc_debug_parts.proofs.find_parts.Reads as reads
-use Rattle.hbc_debug_parts.proofs.find_parts.Lts as lts
-use Rattle.hbc_debug_parts.proofs.is_empty.Reads as is-empty-reads
-use Rattle.hbc_debug_parts.proofs.no_parts.Reads as no-parts-reads
-use Rattle.hbc_debug_parts.proofs.parts_in.Reads as parts-in-reads
-use Rattle.hbc_debug_parts.proofs.read_header.Reads as read-header-reads
-use Rattle.hbc_io.proofs.refuse.Reads as refuse-reads
 
--- src/lib.rt:184:36
 refuse-requires : tie.Need-refuse-requires
 refuse-requires c κs = search needs
 
--- src/lib.rt:184:9
 returns : tie.Need-returns
 returns c = refused-1 (now (c .before .before .before .args .file)) _ (c .before .if1 .taken) (c .refuse .ensures)
 
--- src/lib.rt:187:8
 is-empty-requires : tie.Need-is-empty-requires
 is-empty-requires c κs = search needs
 
--- src/lib.rt:188:34
 no-parts-requires : tie.Need-no-parts-requires
 no-parts-requires c κs = search needs
 
--- src/lib.rt:188:9
 returns-2 : tie.Need-returns-2
 returns-2 c = found-none (now (c .before .before .before .before .before .args .file)) _ (c .before .before .before .if1 .left) (c .before .before .is-empty .ensures) (c .before .if2 .taken) (c .no-parts .ensures)
 
--- src/lib.rt:190:8
 sub-if3 : tie.Need-sub-if3
 sub-if3 c = omega (arith, offset-inside (now (c .before .before .before .before .args .file)) _ (c .before .before .if1 .left) (c .before .is-empty .ensures) (c .if2 .left))
 
--- src/lib.rt:191:36
 refuse-requires-2 : tie.Need-refuse-requires-2
 refuse-requires-2 c κs = search needs
 
--- src/lib.rt:191:9
 returns-3 : tie.Need-returns-3
 returns-3 c = refused-3 (now (c .before .before .before .before .before .before .args .file)) _ (c .before .before .before .before .if1 .left) (c .before .before .before .is-empty .ensures) (c .before .before .if2 .left) (c .before .if3 .taken) (c .refuse2 .ensures)
 
--- src/lib.rt:194:32
 sub-parts-in : tie.Need-sub-parts-in
 sub-parts-in c = search needs
 
--- src/lib.rt:194:58
 read-header-requires : tie.Need-read-header-requires
 read-header-requires c κs = search needs
 
--- src/lib.rt:194:23
 parts-in-requires : tie.Need-parts-in-requires
 parts-in-requires c κs = search needs
 
--- src/lib.rt:180:1
 returns-4 : tie.Need-returns-4
 returns-4 c = found (now (c .before .before .before .before .before .before .before .args .file)) _ (c .before .before .before .before .before .if1 .left) (c .before .before .before .before .is-empty .ensures) (c .before .before .before .if2 .left) (c .before .before .if3 .left) (c .before .read-header .ensures) (c .parts-in .ensures)
 

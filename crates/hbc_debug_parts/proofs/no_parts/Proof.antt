@@ -1,23 +1,16 @@
 use borrow.Author.Needs.{needs}
 use Rattle.hbc_debug_parts.proofs.no_parts.Statement.{statement}
 use Rattle.hbc_debug_parts.proofs.no_parts.Tie as tie
-use Rattle.hbc_debug_parts.proofs.no_parts.Reads as reads
-use Rattle.hbc_debug_parts.proofs.no_parts.Lts as lts
-use Rattle.hbc_debug_parts.proofs.no_part.Reads as no-part-reads
 
--- src/lib.rt:121:17
 no-part-requires : tie.Need-no-part-requires
 no-part-requires c κs = search needs
 
--- src/lib.rt:122:18
 no-part-requires-2 : tie.Need-no-part-requires-2
 no-part-requires-2 c κs = search needs
 
--- src/lib.rt:123:18
 no-part-requires-3 : tie.Need-no-part-requires-3
 no-part-requires-3 c κs = search needs
 
--- src/lib.rt:117:1
 returns : tie.Need-returns
 returns c = cc
 

@@ -2,39 +2,28 @@ use Rattle.hbc_debug_parts.specs.Parts.{headerAt}
 use borrow.Author.Needs.{needs}
 use Rattle.hbc_debug_parts.proofs.read_header.Statement.{statement}
 use Rattle.hbc_debug_parts.proofs.read_header.Tie as tie
-use Rattle.hbc_debug_parts.proofs.read_header.Reads as reads
-use Rattle.hbc_debug_parts.proofs.read_header.Lts as lts
-use Rattle.hbc_debug_parts.proofs.word_at.Reads as word-at-reads
 
--- src/lib.rt:85:25
 word-at-requires : tie.Need-word-at-requires
 word-at-requires c κs = search needs
 
--- src/lib.rt:86:32
 word-at-requires-2 : tie.Need-word-at-requires-2
 word-at-requires-2 c κs = search needs
 
--- src/lib.rt:87:28
 word-at-requires-3 : tie.Need-word-at-requires-3
 word-at-requires-3 c κs = search needs
 
--- src/lib.rt:88:28
 word-at-requires-4 : tie.Need-word-at-requires-4
 word-at-requires-4 c κs = search needs
 
--- src/lib.rt:89:34
 word-at-requires-5 : tie.Need-word-at-requires-5
 word-at-requires-5 c κs = search needs
 
--- src/lib.rt:90:30
 word-at-requires-6 : tie.Need-word-at-requires-6
 word-at-requires-6 c κs = search needs
 
--- src/lib.rt:91:26
 word-at-requires-7 : tie.Need-word-at-requires-7
 word-at-requires-7 c κs = search needs
 
--- src/lib.rt:80:1
 returns : tie.Need-returns
 unfolding headerAt
 returns c = cc

@@ -6,20 +6,13 @@ use Rattle.hbc_io.specs.Plain.{wordAt}
 use borrow.Author.Needs.{needs}
 use Rattle.hbc_debug_parts.proofs.word_at.Statement.{statement}
 use Rattle.hbc_debug_parts.proofs.word_at.Tie as tie
-use Rattle.hbc_debug_parts.proofs.word_at.Reads as reads
-use Rattle.hbc_debug_parts.proofs.word_at.Lts as lts
-use Rattle.hbc_debug_parts.proofs.section_to_file.Reads as section-to-file-reads
-use Rattle.hbc_io.proofs.u32_at.Reads as u32-at-reads
 
--- src/lib.rt:76:9
 section-to-file-requires : tie.Need-section-to-file-requires
 section-to-file-requires c κs = search needs
 
--- src/lib.rt:77:5
 u32-at-requires : tie.Need-u32-at-requires
 u32-at-requires c κs = search needs
 
--- src/lib.rt:72:1
 returns : tie.Need-returns
 unfolding headerWord
 returns c = c .u32-at .ensures ∙ ap (λ (p : InFile). wordAt 4 (now (c .before .before .before .args .file)) (p .0)) (c .before .section-to-file .ensures)
