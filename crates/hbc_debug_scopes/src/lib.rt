@@ -3,11 +3,10 @@ ghost use mathlib.Core.Path.{_≡_};
 ghost use Prim.Native.Nat.{_+_, _^_, _<_};
 ghost use lib.Seq.{sets};
 ghost use Rattle.hbc_io.specs.Outcome.{valued};
-ghost use Rattle.hbc_rows.specs.Until.{until, flat};
 ghost use Rattle.hbc_io_leb.specs.Signed.{slebAt};
-ghost use Rattle.hbc_rows.specs.Until.{Ended};
-ghost use Rattle.hbc_debug_scopes.specs.Scopes.{frontAt, nameCell, CountedScopes, WrittenScopes};
-ghost use Rattle.hbc_debug_scopes.specs.Heads.{headOf, saysHead, wordBits};
+ghost use Rattle.hbc_rows.specs.Until.{until, flat, Ended};
+ghost use Rattle.hbc_debug_scopes.specs.Scopes.{frontAt, nameCell, CountScopes, WriteScopes};
+ghost use Rattle.hbc_debug_scopes.specs.Private.{headOf, saysHead, wordBits};
 use hbc_io::Cursor;
 use hbc_io::Failed;
 use hbc_io::refuse;
@@ -169,7 +168,7 @@ fn write_names(
 
 // How many scopes a part has, and how many names in all.
 pub fn count_scopes(s: &[u8]) -> ScopeCounts
-    ensures { λ r. ⌜ CountedScopes (now (s .entry)) (r .scopes) (r .names) ⌝ }
+    ensures { λ r. ⌜ CountScopes (now (s .entry)) (r .scopes) (r .names) ⌝ }
 {
     let mut here = Cursor { at: 0 };
     let mut left = s.len();
@@ -201,7 +200,7 @@ pub fn count_scopes(s: &[u8]) -> ScopeCounts
 
 // Writes a row a scope, and the names, each below `strings` or none.
 pub fn write_scopes(s: &[u8], strings: u32, rows: &mut [u32], names: &mut [u32])
-    ensures { λ r. ⌜ WrittenScopes (now (s .entry)) strings (now (rows .entry)) (now (names .entry)) (now (rows .exit)) (now (names .exit)) ⌝ }
+    ensures { λ r. ⌜ WriteScopes (now (s .entry)) strings (now (rows .entry)) (now (names .entry)) (now (rows .exit)) (now (names .exit)) ⌝ }
 {
     let mut here = Cursor { at: 0 };
     let mut left = s.len();

@@ -1,4 +1,4 @@
--- The strings of a part, and their rows.
+-- docs/FORMAT.md, section 7.3: the strings of a part, and their rows.
 use Prim.Native.Nat.{ℕ, _+_}
 use mathlib.Core.List.{List, [], _∷_}
 use mathlib.Core.Bool.{cond}

@@ -7,6 +7,7 @@ use borrow.Author.Needs.{needs}
 use Rattle.hbc_debug_scopes.proofs.count_names.Statement.{statement}
 use Rattle.hbc_debug_scopes.proofs.count_names.Tie as tie
 
+-- n names are passed over; those from here on, at most `left`, end where all of them end
 abbrev Inv-loop : tie.InvT-loop
 Inv-loop s count here₀ left₀ n₀ here left n = Ends (slebAt s) count here₀ left n here
 

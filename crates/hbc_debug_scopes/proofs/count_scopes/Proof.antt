@@ -4,14 +4,16 @@ use Prim.Native.Nat.{_≤_}
 use lib.ListN.{length}
 use Rattle.hbc_rows.proofs.Passes.{Counted, counted-first, counted-on, counted-stop, counted-done, Summed, summed-first, summed-on, summed-stop, summed-done}
 use Rattle.hbc_debug_scopes.specs.Scopes.{scopeAt, scopesOf, nameCount}
-use Rattle.hbc_debug_scopes.specs.Heads.{saysHead}
+use Rattle.hbc_debug_scopes.specs.Private.{saysHead}
 use Rattle.hbc_debug_scopes.proofs.Fronts.{turn, scope-refused}
 use borrow.Author.Needs.{needs}
 use Rattle.hbc_debug_scopes.proofs.count_scopes.Statement.{statement}
 use Rattle.hbc_debug_scopes.proofs.count_scopes.Tie as tie
 
+-- n scopes and their names are counted, and the scopes still to be read are the end of all; a name takes a byte, so there are no more than bytes
 abbrev Inv-loop : tie.InvT-loop
-Inv-loop s here₀ left₀ n₀ first₀ here left n first = Counted (scopeAt s) (scopesOf s) (length s) left n here × Summed (scopeAt s) nameCount (scopesOf s) left first here × (first ≤ here .at) × (here .at ≤ length s)
+Inv-loop s here₀ left₀ n₀ first₀ here left n first =
+    Counted (scopeAt s) (scopesOf s) (length s) left n here × Summed (scopeAt s) nameCount (scopesOf s) left first here × (first ≤ here .at) × (here .at ≤ length s)
 
 abbrev μ-loop : tie.MeasureT-loop
 μ-loop s here₀ left₀ n₀ first₀ here left n first = left

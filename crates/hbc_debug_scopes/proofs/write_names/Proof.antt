@@ -13,6 +13,7 @@ use borrow.Author.Needs.{needs}
 use Rattle.hbc_debug_scopes.proofs.write_names.Statement.{statement}
 use Rattle.hbc_debug_scopes.proofs.write_names.Tie as tie
 
+-- n names are passed over, and their words stand from `at` on; the words still to be written make the table as it is to be
 abbrev Inv-loop : tie.InvT-loop
 Inv-loop s count strings names₀ at here₀ left₀ n₀ to₀ names here left n to = Ends (slebAt s) count here₀ left n here × Written (slebAt s) (nameCell strings) (until (slebAt s) count here₀) names₀ at left to here names × (to ≡ at + n)
 

@@ -5,17 +5,18 @@ use Prim.Native.Nat.{_+_, _*_, _≤_}
 use lib.ListN.{length}
 use lib.Seq.{sets}
 use Rattle.hbc_rows.proofs.Passes.{Written, written-first, written-stop, written-done, Rowed, rowed-first, rowed-on, rowed-stop, rowed-done}
-use Rattle.hbc_debug_scopes.specs.Scopes.{scopeAt, scopesOf, nameCount, scopeRow, nameRow}
-use Rattle.hbc_debug_scopes.specs.Heads.{saysHead}
+use Rattle.hbc_debug_scopes.specs.Scopes.{scopeAt, scopesOf, nameCount, scopeWidth, scopeRow, nameRow}
+use Rattle.hbc_debug_scopes.specs.Private.{saysHead}
 use Rattle.hbc_debug_scopes.proofs.Fronts.{head-most, turn, turned, scope-refused, row-size}
 use borrow.Author.Needs.{needs}
 use Rattle.hbc_debug_scopes.proofs.write_scopes.Statement.{statement}
 use Rattle.hbc_debug_scopes.proofs.write_scopes.Tie as tie
 
+-- the rows and the names still to be written make the two tables as they are to be; a name takes a byte, so there are no more than bytes
 abbrev Inv-loop : tie.InvT-loop
 Inv-loop s strings rows₀ names₀ here₀ left₀ at₀ first₀ rows names here left at first =
     Rowed (scopeAt s) scopeRow nameCount (scopesOf s) rows₀ left at first here rows × Written (scopeAt s) (nameRow strings) (scopesOf s) names₀ 0 left first here names
-    × (at + 5 * left ≡ 5 * length s) × (first ≤ here .at) × (here .at ≤ length s)
+    × (at + scopeWidth * left ≡ scopeWidth * length s) × (first ≤ here .at) × (here .at ≤ length s)
 
 abbrev μ-loop : tie.MeasureT-loop
 μ-loop s strings rows₀ names₀ here₀ left₀ at₀ first₀ rows names here left at first = left
@@ -88,11 +89,14 @@ loop-less c = search needs
 
 loop-again : tie.Need-loop-again Inv-loop μ-loop
 loop-again c =
-    let t = turn _ _ _ _ _ _ (found saysHead (c .before .before .before .before .before .before .before .before .before .before .before .before .before .before .before .before .read-head .ensures) (c .before .before .before .before .before .before .before .before .before .before .before .before .before .before .h .given .1)) (c .before .before .before .before .before .before .before .before .before .before .before .write-names .ensures .0) in (
-      rowed-on 5 _ (c .before .before .before .before .before .before .before .before .before .before .before .before .before .before .before .before .before .loop-test .taken) (t .is) (row-size _ _) (t .count) (c .before .before .before .before .put-words .ensures ∙ ap (sets (c .before .before .before .before .before .before .before .before .before .before .before .before .before .before .before .before .before .before .loop .rows) (c .before .before .before .before .before .before .before .before .before .before .before .before .before .before .before .before .before .before .loop .at)) (t .row (c .before .before .before .before .before .before .before .before .before .before .before .before .before .before .before .before .before .before .loop .first))) (c .before .before .before .before .before .before .before .before .before .before .before .before .before .before .before .before .before .before .loop .inv .0),
-      turned _ _ t (c .before .before .before .before .before .before .before .before .before .before .before .before .before .before .before .before .before .loop-test .taken) (c .before .before .before .before .before .before .before .before .before .before .before .write-names .ensures .1) (c .before .before .before .before .before .before .before .before .before .before .before .before .before .before .before .before .before .before .loop .inv .1),
-      omega (arith, c .before .before .before .before .before .before .before .before .before .before .before .before .before .before .before .before .before .before .loop .inv .2, c .before .before .before .before .before .before .before .before .before .before .before .before .before .before .before .before .before .loop-test .taken),
-      omega (arith, t .low, c .before .before .before .before .before .before .before .before .before .before .before .before .before .before .before .before .before .before .loop .inv .3),
+    let l = c .before .before .before .before .before .before .before .before .before .before .before .before .before .before .before .before .before .before .loop in
+    let more = c .before .before .before .before .before .before .before .before .before .before .before .before .before .before .before .before .before .loop-test .taken in
+    let t = turn _ _ _ _ _ _ (found saysHead (c .before .before .before .before .before .before .before .before .before .before .before .before .before .before .before .before .read-head .ensures) (c .before .before .before .before .before .before .before .before .before .before .before .before .before .before .h .given .1)) (c .before .before .before .before .before .before .before .before .before .before .before .write-names .ensures .0) in
+    let put = c .before .before .before .before .put-words .ensures ∙ ap (sets (l .rows) (l .at)) (t .row (l .first)) in (
+      rowed-on scopeWidth _ more (t .is) (row-size _ _) (t .count) put (l .inv .0),
+      turned _ _ t more (c .before .before .before .before .before .before .before .before .before .before .before .write-names .ensures .1) (l .inv .1),
+      omega (arith, l .inv .2, more),
+      omega (arith, t .low, l .inv .3),
       omega (arith, t .high),
     )
 

@@ -9,6 +9,7 @@ use Rattle.hbc_debug_strings.specs.Strings.{stringsOf}
 use Rattle.hbc_debug_strings.proofs.count_strings.Statement.{statement}
 use Rattle.hbc_debug_strings.proofs.count_strings.Tie as tie
 
+-- n strings are counted, and those still to be read from here are the end of all that the part has
 abbrev Inv-loop : tie.InvT-loop
 Inv-loop part here₀ left₀ n₀ here left n = Counted (prefixed part) (stringsOf part) (length part) left n here
 

@@ -9,14 +9,15 @@ use Rattle.hbc_io.proofs.Reading.{found}
 use Rattle.hbc_io_strings.specs.Text.{prefixed}
 use Rattle.hbc_rows.proofs.Passes.{Written, written-first, written-on, written-stop, written-done}
 use Rattle.hbc_debug_parts.specs.declared.InFile.{InFile}
-use Rattle.hbc_debug_strings.specs.Strings.{stringsOf, stringRow}
+use Rattle.hbc_debug_strings.specs.Strings.{stringsOf, stringWidth, stringRow}
 use Rattle.hbc_debug_strings.proofs.Inside.{inside}
 use borrow.Author.Needs.{needs}
 use Rattle.hbc_debug_strings.proofs.write_rows.Statement.{statement}
 use Rattle.hbc_debug_strings.proofs.write_rows.Tie as tie
 
+-- the rows still to be written, over the table as it is, make the table as it is to be; two words were written for each string read
 abbrev Inv-loop : tie.InvT-loop
-Inv-loop part base rows₀ here₀ left₀ at₀ rows here left at = Written (prefixed part) (stringRow base) (stringsOf part) rows₀ 0 left at here rows × (at + 2 * left ≡ 2 * length part)
+Inv-loop part base rows₀ here₀ left₀ at₀ rows here left at = Written (prefixed part) (stringRow base) (stringsOf part) rows₀ 0 left at here rows × (at + stringWidth * left ≡ stringWidth * length part)
 
 abbrev μ-loop : tie.MeasureT-loop
 μ-loop part base rows₀ here₀ left₀ at₀ rows here left at = left
@@ -67,8 +68,13 @@ loop-less c = search needs
 
 loop-again : tie.Need-loop-again Inv-loop μ-loop
 loop-again c =
-    let f = ap (λ (x : InFile). x .0) (c .before .before .before .before .before .before .before .part-to-file .ensures) in
-    (written-on 2 (c .before .before .before .before .before .before .before .before .before .before .before .before .loop-test .taken) (found saysSpan (c .before .before .before .before .before .before .before .before .before .before .before .read-length-prefixed-string .ensures) (c .before .before .before .before .before .before .before .before .before .p .given .1)) refl (c .before .before .put-words .ensures ∙ ap (λ (x : InFile). sets (c .before .before .before .before .before .before .before .before .before .before .before .before .before .loop .rows) (c .before .before .before .before .before .before .before .before .before .before .before .before .before .loop .at) (x .0 ∷ c .before .before .before .before .before .before .before .before .before .p .given .0 .0 .len ∷ [])) (c .before .before .before .before .before .before .before .part-to-file .ensures)) (c .before .before .before .before .before .before .before .before .before .before .before .before .before .loop .inv .0), omega arith)
+    let l = c .before .before .before .before .before .before .before .before .before .before .before .before .before .loop in
+    let p = c .before .before .before .before .before .before .before .before .before .p in
+    let f = c .before .before .before .before .before .before .before .part-to-file .ensures in
+    let start = ap (λ (x : InFile). x .0) f in
+    let put = c .before .before .put-words .ensures ∙ ap (λ (x : InFile). sets (l .rows) (l .at) (x .0 ∷ p .given .0 .0 .len ∷ [])) f in
+    let read = found saysSpan (c .before .before .before .before .before .before .before .before .before .before .before .read-length-prefixed-string .ensures) (p .given .1) in
+    (written-on stringWidth (c .before .before .before .before .before .before .before .before .before .before .before .before .loop-test .taken) read refl put (l .inv .0), omega arith)
 
 same-length-2 : tie.Need-same-length-2 Inv-loop μ-loop
 same-length-2 c = c .before .loop .inv .0 .size

@@ -1,4 +1,4 @@
--- "Until one fails" is defined with a number of steps; it never cuts a list short: more steps read no more.
+-- A read that takes at least a byte needs no more steps than there are bytes.
 use mathlib.Core.Path.{_≡_, refl, sym, ap, _∙_}
 use mathlib.Core.List.{List, [], _∷_}
 use Prim.Native.Nat.{ℕ, zero, suc, _+_, _≤_, _<_}
@@ -17,9 +17,10 @@ use Rattle.hbc_rows.proofs.Far.{far}
 use Rattle.hbc_debug_strings.specs.Strings.{stringsOf}
 use Rattle.hbc_debug_scopes.specs.Scopes.{Front, frontAt, Scope, scopeAt, scopesOf}
 use Rattle.hbc_debug_scopes.proofs.Fronts.{front-inside}
+use Rattle.hbc_claims_debug.specs.AllRead.{AllRead}
 
 -- a read that takes at least a byte, and ends in the input
-abbrev pub Takes : {A : Type 0} → ℕ → (Cursor → Outcome A) → Type 0
+abbrev Takes : {A : Type 0} → ℕ → (Cursor → Outcome A) → Type 0
 Takes {A} m f = (c : Cursor) (v : A) (n : Cursor) → f c ≡ got v n → (c .at < n .at) × (n .at ≤ m)
 
 module _ {A : Type 0} (m : ℕ) (f : Cursor → Outcome A) (takes : Takes m f) where
@@ -27,7 +28,8 @@ module _ {A : Type 0} (m : ℕ) (f : Cursor → Outcome A) (takes : Takes m f) w
   ended j c (got v n) e h = let t = takes c v n e in absurd (omega arith)
   ended j c (refused r n) e h = until-stop f j c r n e
 
-  step : (k j : ℕ) (c : Cursor) (o : Outcome A) → f c ≡ o → m ≤ c .at + suc k → ((n : Cursor) → m ≤ n .at + k → until f (k + j) n ≡ until f k n)
+  step : (k j : ℕ) (c : Cursor) (o : Outcome A) → f c ≡ o → m ≤ c .at + suc k
+      → ((n : Cursor) → m ≤ n .at + k → until f (k + j) n ≡ until f k n)
       → until f (suc k + j) c ≡ until f (suc k) c
   step k j c (got v n) e h go =
       let t = takes c v n e in
@@ -36,14 +38,9 @@ module _ {A : Type 0} (m : ℕ) (f : Cursor → Outcome A) (takes : Takes m f) w
   step k j c (refused r n) e h go = until-stop f (suc k + j) c r n e ∙ sym (until-stop f (suc k) c r n e)
 
   -- as many steps as there are bytes left are enough
-  pub enough : (k j : ℕ) (c : Cursor) → m ≤ c .at + k → until f (k + j) c ≡ until f k c
+  enough : (k j : ℕ) (c : Cursor) → m ≤ c .at + k → until f (k + j) c ≡ until f k c
   enough zero j c h = ended (zero + j) c (f c) refl (omega arith) ∙ sym (ended zero c (f c) refl (omega arith))
   enough (suc k) j c h = step k j c (f c) refl h (λ n l. enough k j n l)
-
--- the strings of a part are all that any number of steps reads
-pub strings-whole : (s : List ℕ) (j : ℕ) → until (prefixed s) (length s + j) (cursorAt 0) ≡ stringsOf s
-unfolding stringsOf
-strings-whole s j = enough (length s) (prefixed s) (prefix-moves s) (length s) j (cursorAt 0) (omega arith)
 
 scope-takes : (s : List ℕ) → Takes (length s) (scopeAt s)
 unfolding scopeAt
@@ -57,7 +54,9 @@ scope-takes s c x n e =
     let p = ap (λ (d : Cursor). d .at) y in
     (omega (arith, z .low, i .on), omega (arith, z .high))
 
--- and so are its scopes; the names of one and the pairs of callees are bounded by the count that the file gives
-pub scopes-whole : (s : List ℕ) (j : ℕ) → until (scopeAt s) (length s + j) (cursorAt 0) ≡ scopesOf s
-unfolding scopesOf
-scopes-whole s j = enough (length s) (scopeAt s) (scope-takes s) (length s) j (cursorAt 0) (omega arith)
+pub all-read : (s : List ℕ) (k : ℕ) → AllRead s k
+unfolding stringsOf scopesOf
+all-read s k = record {
+  strings = enough (length s) (prefixed s) (prefix-moves s) (length s) k (cursorAt 0) (omega arith);
+  scopes = enough (length s) (scopeAt s) (scope-takes s) (length s) k (cursorAt 0) (omega arith);
+}

@@ -1,4 +1,5 @@
--- The front of a scope as row words.
+-- What only private contracts cite: no promise rests on it.
+-- docs/FORMAT.md, section 7.4: the front of a scope as row words.
 use Prim.Native.Nat.{ℕ}
 use mathlib.Core.Bool.{cond}
 use lib.Dec.{ltb}
@@ -13,6 +14,7 @@ use Rattle.hbc_debug_scopes.specs.declared.ReadHead.the-variants as head
 unfoldable pub wordBits : ℕ → ℕ → ℕ
 wordBits m b = cond (ltb b m) b absent
 
+-- a front as its row has it
 abbrev pub headOf : Front → Head
 headOf h = record { parent = parentWord (h .parent); flags = low32 (h .flags); count = h .count }
 

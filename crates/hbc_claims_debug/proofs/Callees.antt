@@ -1,4 +1,4 @@
--- "One row an address, rising, the last one winning", as what it means of the entries: no order of looking, no algorithm.
+-- The rows of a part have the meaning of their entries, and two lists with one meaning are one.
 use mathlib.Core.Path.{_≡_, refl, sym, ap, _∙_}
 use mathlib.Core.Bool.{Bool, true, false, cond}
 use mathlib.Core.List.{List, [], _∷_, _++_}
@@ -6,44 +6,9 @@ use Prim.Native.Nat.{ℕ, zero, suc, _≤_, _<_}
 use native.Mathlib.Omega.{arith}
 use borrow.Author.Tests.{eqb-true, eqb-false, eq-eqb}
 use lib.Dec.{eqb}
-use Rattle.hbc_debug_callees.specs.Callees.{Found, none, name, Callee, calleeIf, risingBelow, lastName, after1, calleesOf, pairsOf}
+use Rattle.hbc_debug_callees.specs.Callees.{addresses, Found, none, name, Callee, calleeIf, risingBelow, lastName, after1, calleesOf, pairsOf}
 use Rattle.hbc_debug_callees.specs.declared.Pair.{Pair}
-
--- rows from lo up and below hi, each address above the one before: sorted, and one row an address
-abbrev pub Between : ℕ → ℕ → List Callee → Type 0
-Between lo hi [] = lo ≤ hi
-Between lo hi (x ∷ xs) = (lo ≤ x .address) × Between (suc (x .address)) hi xs
-
-pub data Either (A B : Type 0) : Type 0 where
-  left : A → Either A B
-  right : B → Either A B
-
--- x is one of the rows
-abbrev pub Row : Callee → List Callee → Type 0
-Row x [] = ⊥
-Row x (y ∷ ys) = Either (x ≡ y) (Row x ys)
-
--- no entry with a known name has the address
-abbrev pub Silent : ℕ → List Pair → Type 0
-Silent a [] = Unit {0}
-Silent a (p ∷ ps) = (p .known ≡ true → p .address ≡ a → ⊥) × Silent a ps
-
--- an entry with this address and this known name
-pub record Names (a k : ℕ) (p : Pair) : Type 0 where
-  pub known : p .known ≡ true
-  pub address : p .address ≡ a
-  pub name : p .name ≡ k
-
--- the last entry with the address and a known name has the name k
-abbrev pub Last : ℕ → ℕ → List Pair → Type 0
-Last a k [] = ⊥
-Last a k (p ∷ ps) = Either (Names a k p × Silent a ps) (Last a k ps)
-
--- the rows that entries have
-pub record Rows (ps : List Pair) (xs : List Callee) : Type 0 where
-  pub rising : Between 0 4294967296 xs
-  pub named : (x : Callee) → Row x xs → Last (x .address) (x .name) ps
-  pub all : (a k : ℕ) → a < 4294967296 → Last a k ps → Row (record { address = a; name = k }) xs
+use Rattle.hbc_claims_debug.specs.Callees.{Between, Either, left, right, Row, Silent, Names, Last, Rows, CalleesRead}
 
 -- ---- the last name
 
@@ -145,13 +110,13 @@ module _ (g : ℕ → Found) where
           row-left (record { address = a; name = k }) (risingBelow g b) (calleeIf b (g b)) (more (lt-of a b (λ x. eqb-false a b u x) h))
 
 -- the rows of a part are those that its entries have
-pub callees-are : (n : ℕ) (s : List ℕ) → Rows (pairsOf n s) (calleesOf n s)
+callees-are : (n : ℕ) (s : List ℕ) → Rows (pairsOf n s) (calleesOf n s)
 unfolding calleesOf
 callees-are n s =
     record {
-      rising = below-between (λ (a : ℕ). lastName a none (pairsOf n s)) 4294967296;
-      named = λ x r. go x (is-last (x .address) (x .name) none (pairsOf n s) (row-named (λ (a : ℕ). lastName a none (pairsOf n s)) 4294967296 x r));
-      all = λ a k h l. named-row (λ (b : ℕ). lastName b none (pairsOf n s)) 4294967296 a k h (last-is a k none (pairsOf n s) l);
+      rising = below-between (λ (a : ℕ). lastName a none (pairsOf n s)) addresses;
+      named = λ x r. go x (is-last (x .address) (x .name) none (pairsOf n s) (row-named (λ (a : ℕ). lastName a none (pairsOf n s)) addresses x r));
+      all = λ a k h l. named-row (λ (b : ℕ). lastName b none (pairsOf n s)) addresses a k h (last-is a k none (pairsOf n s) l);
     }
   where
     go : (x : Callee) → Either (Last (x .address) (x .name) (pairsOf n s)) ((none ≡ name (x .name)) × Silent (x .address) (pairsOf n s)) → Last (x .address) (x .name) (pairsOf n s)
@@ -202,8 +167,11 @@ same-rows lo hi (x ∷ xs) (y ∷ ys) b d f g =
     rw (e, t)
 
 -- entries have one list of rows
-pub rows-one : (ps : List Pair) (xs ys : List Callee) → Rows ps xs → Rows ps ys → xs ≡ ys
+rows-one : (ps : List Pair) (xs ys : List Callee) → Rows ps xs → Rows ps ys → xs ≡ ys
 rows-one ps xs ys a b =
-    same-rows 0 4294967296 xs ys (a .rising) (b .rising)
-    (λ x r. b .all (x .address) (x .name) (row-from 0 4294967296 x xs (a .rising) r .1) (a .named x r))
-    (λ x r. a .all (x .address) (x .name) (row-from 0 4294967296 x ys (b .rising) r .1) (b .named x r))
+    same-rows 0 addresses xs ys (a .rising) (b .rising)
+    (λ x r. b .all (x .address) (x .name) (row-from 0 addresses x xs (a .rising) r .1) (a .named x r))
+    (λ x r. a .all (x .address) (x .name) (row-from 0 addresses x ys (b .rising) r .1) (b .named x r))
+
+pub callees-read : (n : ℕ) (s : List ℕ) → CalleesRead n s
+callees-read n s = record { rows = callees-are n s; one = λ xs v. rows-one (pairsOf n s) xs (calleesOf n s) v (callees-are n s) }
