@@ -9,7 +9,7 @@ use lib.Dec.{ltb, eqb}
 use borrow.Author.Tests.{eqb-true, eqb-false, ltb-true, ltb-false}
 use Rattle.hbc_rows.specs.Rows.{entryAt, rowAt, rows, putRows}
 use Rattle.hbc_rows.proofs.RowsAt as at
-use Rattle.hbc_header.specs.Row.{legacyWords, modernWords}
+use Rattle.hbc_function_record.specs.Row.{legacyWords, modernWords}
 use Rattle.hbc_parsing_handlers.specs.declared.Table.{Table}
 use Rattle.hbc_parsing_handlers.specs.declared.Why.{Why}
 use Rattle.hbc_parsing_handlers.specs.declared.Why.the-variants as w

@@ -5,7 +5,7 @@ use mathlib.Core.List.{List, _∷_, _++_}
 use mathlib.Core.Bool.{true, false}
 use lib.ListN.{replicate}
 use Rattle.hbc_io.specs.Answer.{gives, refusedAt, told}
-use Rattle.hbc_header.specs.Row.{width}
+use Rattle.hbc_function_record.specs.Row.{width}
 use Rattle.hbc_parsing_handlers.specs.declared.Reason.the-variants as r
 use Rattle.hbc_parsing_handlers.specs.declared.Why.the-variants as w
 use Rattle.hbc_parsing_handlers.specs.Why.{why}

@@ -2,9 +2,9 @@
 use Prim.Native.Nat.{ℕ, _+_, _<_}
 use mathlib.Core.Path.{_≡_}
 use mathlib.Core.List.{List}
-use Rattle.hbc_header.specs.declared.Legacy.{Legacy}
-use Rattle.hbc_header.specs.declared.Modern.{Modern}
-use Rattle.hbc_header.specs.Row.{legacyWords, modernWords}
+use Rattle.hbc_function_record.specs.declared.Legacy.{Legacy}
+use Rattle.hbc_function_record.specs.declared.Modern.{Modern}
+use Rattle.hbc_function_record.specs.Row.{legacyWords, modernWords}
 use Rattle.hbc_parsing_handlers.specs.Why.{infoIn, flagsIn, shown}
 use Rattle.hbc_parsing_handlers.specs.Handlers.{total}
 

@@ -7,7 +7,7 @@ use Rattle.hbc_io.specs.Outcome.{limit}
 use Rattle.hbc_io.specs.Answer.{Answer, gives, refuses, refusedAt}
 use Rattle.hbc_io.specs.Lends.{below, Lends}
 use Rattle.hbc_rows.specs.Rows.{rows, putRows}
-use Rattle.hbc_header.specs.Row.{width}
+use Rattle.hbc_function_record.specs.Row.{width}
 use Rattle.hbc_parsing_handlers.specs.declared.Listed.{Listed}
 use Rattle.hbc_parsing_handlers.specs.declared.Listed.the-variants as l
 use Rattle.hbc_parsing_handlers.specs.Why.{handlerBytes, shown}

@@ -7,7 +7,7 @@ use Rattle.hbc_bits.specs.Bits.{leAt, field}
 use Rattle.hbc_io.specs.Lends.{below, choose}
 use Rattle.hbc_io.specs.Plain.{alignedUp}
 use Rattle.hbc_rows.specs.Rows.{entryAt}
-use Rattle.hbc_header.specs.Row.{width}
+use Rattle.hbc_function_record.specs.Row.{width, ROW_INFO_OFFSET, ROW_FLAGS}
 use Rattle.hbc_parsing_handlers.specs.declared.Table.{Table}
 use Rattle.hbc_parsing_handlers.specs.declared.Reason.the-variants as r
 use Rattle.hbc_parsing_handlers.specs.declared.Why.{Why}
@@ -47,10 +47,10 @@ whyAt s info flags =
 
 -- the words of row i that are read
 abbrev pub infoIn : List ℕ → ℕ → ℕ
-infoIn functions i = entryAt functions (i * width + 6)
+infoIn functions i = entryAt functions (i * width + ROW_INFO_OFFSET)
 
 abbrev pub flagsIn : List ℕ → ℕ → ℕ
-flagsIn functions i = entryAt functions (i * width + 8)
+flagsIn functions i = entryAt functions (i * width + ROW_FLAGS)
 
 -- row i is function i
 unfoldable pub why : List ℕ → List ℕ → ℕ → Why

@@ -8,16 +8,13 @@ ghost use Rattle.hbc_rows.specs.Rows.{putRows};
 ghost use Rattle.hbc_parsing_handlers.specs.Why.{handlerBytes, tableAt, whyAt, why};
 ghost use Rattle.hbc_parsing_handlers.specs.Handlers.{handlerWidth, total, handlerRow, putHandlers, ReadHandlers};
 ghost use Rattle.hbc_parsing_handlers.specs.Private.{Found};
-use hbc_header::WIDTH;
+use hbc_function_record::ROW_FLAGS;
+use hbc_function_record::ROW_INFO_OFFSET;
+use hbc_function_record::WIDTH;
 use hbc_io::Cursor;
 use hbc_io::LIMIT;
 use hbc_io::Moved;
 use hbc_io::Refusal;
-
-// The words of a function's row that are read.
-const INFO_OFFSET: usize = 6;
-
-const FLAGS: usize = 8;
 
 // A count above this is none.
 const MOST: u32 = 1000;
@@ -107,8 +104,8 @@ fn why_row(file: &[u8], functions: &[u32], i: usize) -> Why
     requires { ⌜ (i < 2 ^ 32) × (length (now file) ≤ limit) ⌝ }
     ensures { λ r. ⌜ r ≡ why (now (file .entry)) (now (functions .entry)) i ⌝ }
 {
-    let info = hbc_rows::word_of(functions, i * WIDTH + INFO_OFFSET);
-    let flags = hbc_rows::word_of(functions, i * WIDTH + FLAGS);
+    let info = hbc_rows::word_of(functions, i * WIDTH + ROW_INFO_OFFSET);
+    let flags = hbc_rows::word_of(functions, i * WIDTH + ROW_FLAGS);
     why_at(file, info, flags)
 }
 

@@ -1,6 +1,6 @@
 use borrow.Author.Needs.{needs}
-use Rattle.hbc_c.proofs.function.meets_code.Statement.{statement}
-use Rattle.hbc_c.proofs.function.meets_code.Tie as tie
+use Rattle.hbc_c_function.proofs.meets_code.Statement.{statement}
+use Rattle.hbc_c_function.proofs.meets_code.Tie as tie
 
 function-meets-requires : tie.Need-function-meets-requires
 function-meets-requires c κs = search needs
