@@ -30,7 +30,10 @@ pub fn read_literal(
     number: &mut f64,
     word: &mut u32,
 ) -> u64
-    ensures { λ r. ⌜ ToldLiteral tag (now (s .entry)) (now (at .entry)) (now (kind .entry)) (now (number .entry)) (now (word .entry)) r (now (at .exit)) (now (kind .exit)) (now (number .exit)) (now (word .exit)) ⌝ }
+    ensures { λ r. ⌜
+        ToldLiteral tag (now (s .entry)) (now (at .entry)) (now (kind .entry)) (now (number .entry)) (now (word .entry))
+        r (now (at .exit)) (now (kind .exit)) (now (number .exit)) (now (word .exit))
+        ⌝ }
 {
     match hbc_buffer_literal::read_literal(s, Cursor { at: *at }, tag) {
         ReadLiteral::Got(v, next) => {
@@ -100,7 +103,10 @@ pub fn read_object(
     kinds: &mut [u32],
     payloads: &mut [u64],
 ) -> u64
-    ensures { λ r. ⌜ ToldObject (now (keys .entry)) (now (values .entry)) yes offset count (now (kinds .entry)) (now (payloads .entry)) r (now (kinds .exit)) (now (payloads .exit)) ⌝ }
+    ensures { λ r. ⌜
+        ToldObject (now (keys .entry)) (now (values .entry)) yes offset count (now (kinds .entry)) (now (payloads .entry))
+        r (now (kinds .exit)) (now (payloads .exit))
+        ⌝ }
 {
     object_code(hbc_buffer_object::read_object(
         keys,

@@ -1,4 +1,5 @@
-// The calls of hbc_bits and of the cursor layer for C and Rust, each behind an export of hbc_c. The cursor goes in and comes back at `at`; a value is written only where one was read.
+// The calls of hbc_bits and of the cursor layer for C and Rust, each behind an export of hbc_c. The cursor goes in and comes back at `at`;
+// a value is written only where one was read.
 ghost use mathlib.Core.Path.{_≡_};
 ghost use lib.Ieee.{ofBits, binary64};
 ghost use Rattle.hbc_bits.specs.Bits.{field};
@@ -81,7 +82,10 @@ pub fn read_u8(s: &[u8], at: &mut usize, value: &mut u8) -> u64
 }
 
 pub fn read_i8(s: &[u8], at: &mut usize, value: &mut i8) -> u64
-    ensures { λ r. ⌜ Reads (valued (twos 8) (plainAt 1 (now (s .entry)) (cursorAt (now (at .entry))))) (now (value .entry)) r (now (at .exit)) (now (value .exit)) ⌝ }
+    ensures { λ r. ⌜
+        Reads (valued (twos 8) (plainAt 1 (now (s .entry)) (cursorAt (now (at .entry))))) (now (value .entry))
+        r (now (at .exit)) (now (value .exit))
+        ⌝ }
 {
     match hbc_io::read_i8(s, Cursor { at: *at }) {
         ReadI8::Got(v, next) => {
@@ -145,7 +149,10 @@ pub fn read_u64(s: &[u8], at: &mut usize, value: &mut u64) -> u64
 }
 
 pub fn read_i32(s: &[u8], at: &mut usize, value: &mut i32) -> u64
-    ensures { λ r. ⌜ Reads (valued (twos 32) (plainAt 4 (now (s .entry)) (cursorAt (now (at .entry))))) (now (value .entry)) r (now (at .exit)) (now (value .exit)) ⌝ }
+    ensures { λ r. ⌜
+        Reads (valued (twos 32) (plainAt 4 (now (s .entry)) (cursorAt (now (at .entry))))) (now (value .entry))
+        r (now (at .exit)) (now (value .exit))
+        ⌝ }
 {
     match hbc_io::read_i32(s, Cursor { at: *at }) {
         ReadI32::Got(v, next) => {
@@ -161,7 +168,10 @@ pub fn read_i32(s: &[u8], at: &mut usize, value: &mut i32) -> u64
 }
 
 pub fn read_f64(s: &[u8], at: &mut usize, value: &mut f64) -> u64
-    ensures { λ r. ⌜ Reads (valued (ofBits binary64) (plainAt 8 (now (s .entry)) (cursorAt (now (at .entry))))) (now (value .entry)) r (now (at .exit)) (now (value .exit)) ⌝ }
+    ensures { λ r. ⌜
+        Reads (valued (ofBits binary64) (plainAt 8 (now (s .entry)) (cursorAt (now (at .entry))))) (now (value .entry))
+        r (now (at .exit)) (now (value .exit))
+        ⌝ }
 {
     match hbc_io::read_f64(s, Cursor { at: *at }) {
         ReadF64::Got(v, next) => {
@@ -177,7 +187,10 @@ pub fn read_f64(s: &[u8], at: &mut usize, value: &mut f64) -> u64
 }
 
 pub fn read_uleb128(s: &[u8], at: &mut usize, value: &mut u64) -> u64
-    ensures { λ r. ⌜ Reads (valued unsignedOf (lebBytes (now (s .entry)) (cursorAt (now (at .entry))))) (now (value .entry)) r (now (at .exit)) (now (value .exit)) ⌝ }
+    ensures { λ r. ⌜
+        Reads (valued unsignedOf (lebBytes (now (s .entry)) (cursorAt (now (at .entry))))) (now (value .entry))
+        r (now (at .exit)) (now (value .exit))
+        ⌝ }
 {
     match hbc_io_leb::read_uleb128(s, Cursor { at: *at }) {
         ReadUleb::Got(v, next) => {
@@ -194,7 +207,10 @@ pub fn read_uleb128(s: &[u8], at: &mut usize, value: &mut u64) -> u64
 }
 
 pub fn read_sleb128(s: &[u8], at: &mut usize, value: &mut i64) -> u64
-    ensures { λ r. ⌜ Reads (valued signedOf (lebBytes (now (s .entry)) (cursorAt (now (at .entry))))) (now (value .entry)) r (now (at .exit)) (now (value .exit)) ⌝ }
+    ensures { λ r. ⌜
+        Reads (valued signedOf (lebBytes (now (s .entry)) (cursorAt (now (at .entry))))) (now (value .entry))
+        r (now (at .exit)) (now (value .exit))
+        ⌝ }
 {
     match hbc_io_leb::read_sleb128(s, Cursor { at: *at }) {
         ReadSleb::Got(v, next) => {
@@ -211,7 +227,10 @@ pub fn read_sleb128(s: &[u8], at: &mut usize, value: &mut i64) -> u64
 }
 
 pub fn read_bytes(s: &[u8], at: &mut usize, len: usize, start: &mut usize, size: &mut usize) -> u64
-    ensures { λ r. ⌜ ReadsSpan (bytesAt len (now (s .entry)) (cursorAt (now (at .entry)))) (now (start .entry)) (now (size .entry)) r (now (at .exit)) (now (start .exit)) (now (size .exit)) ⌝ }
+    ensures { λ r. ⌜
+        ReadsSpan (bytesAt len (now (s .entry)) (cursorAt (now (at .entry)))) (now (start .entry)) (now (size .entry))
+        r (now (at .exit)) (now (start .exit)) (now (size .exit))
+        ⌝ }
 {
     match hbc_io::read_bytes(s, Cursor { at: *at }, len) {
         ReadSpan::Got(p, next) => {
@@ -228,7 +247,10 @@ pub fn read_bytes(s: &[u8], at: &mut usize, len: usize, start: &mut usize, size:
 }
 
 pub fn read_cstring(s: &[u8], at: &mut usize, start: &mut usize, size: &mut usize) -> u64
-    ensures { λ r. ⌜ ReadsSpan (zeroEnded (now (s .entry)) (cursorAt (now (at .entry)))) (now (start .entry)) (now (size .entry)) r (now (at .exit)) (now (start .exit)) (now (size .exit)) ⌝ }
+    ensures { λ r. ⌜
+        ReadsSpan (zeroEnded (now (s .entry)) (cursorAt (now (at .entry)))) (now (start .entry)) (now (size .entry))
+        r (now (at .exit)) (now (start .exit)) (now (size .exit))
+        ⌝ }
 {
     match hbc_io_strings::read_cstring(s, Cursor { at: *at }) {
         ReadSpan::Got(p, next) => {
@@ -250,7 +272,10 @@ pub fn read_length_prefixed_string(
     start: &mut usize,
     size: &mut usize,
 ) -> u64
-    ensures { λ r. ⌜ ReadsSpan (prefixed (now (s .entry)) (cursorAt (now (at .entry)))) (now (start .entry)) (now (size .entry)) r (now (at .exit)) (now (start .exit)) (now (size .exit)) ⌝ }
+    ensures { λ r. ⌜
+        ReadsSpan (prefixed (now (s .entry)) (cursorAt (now (at .entry)))) (now (start .entry)) (now (size .entry))
+        r (now (at .exit)) (now (start .exit)) (now (size .exit))
+        ⌝ }
 {
     match hbc_io_strings::read_length_prefixed_string(s, Cursor { at: *at }) {
         ReadSpan::Got(p, next) => {

@@ -21,7 +21,10 @@ pub fn read_handlers(
     rows: &mut [u32],
     total: &mut usize,
 ) -> u64
-    ensures { λ r. ⌜ ToldHandlers (now (file .entry)) (now (functions .entry)) count (now (rows .entry)) (now (total .entry)) r (now (rows .exit)) (now (total .exit)) ⌝ }
+    ensures { λ r. ⌜
+        ToldHandlers (now (file .entry)) (now (functions .entry)) count (now (rows .entry)) (now (total .entry))
+        r (now (rows .exit)) (now (total .exit))
+        ⌝ }
 {
     match hbc_parsing_handlers::read_handlers(file, functions, count, rows) {
         Listed::Rows(n) => {

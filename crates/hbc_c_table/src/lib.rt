@@ -44,7 +44,10 @@ pub fn decode_strings(
     storage: &[u8],
     rows: &mut [u32],
 ) -> u64
-    ensures { λ r. ⌜ ToldStrings count (now (kinds .entry)) (now (small .entry)) (now (overflow .entry)) (now (storage .entry)) (now (rows .entry)) r (now (rows .exit)) ⌝ }
+    ensures { λ r. ⌜
+        ToldStrings count (now (kinds .entry)) (now (small .entry)) (now (overflow .entry)) (now (storage .entry)) (now (rows .entry))
+        r (now (rows .exit))
+        ⌝ }
 {
     match hbc_table_strings::decode_strings(count, kinds, small, overflow, storage, rows) {
         Decoded::Rows(n) => n as u64,

@@ -74,7 +74,7 @@ use Rattle.hbc_claims_io.specs.Leb128.{Fits64}
 use Rattle.hbc_claims_io.specs.Leb128 as leb
 use Rattle.hbc_claims_io.specs.Unique as u-io
 use Rattle.hbc_claims_io.specs.Reader as u-reader
-use Rattle.hbc_claims_io.specs.Refused.{lebLeft, textLeft, PrefixLeft}
+use Rattle.hbc_claims_io.specs.Left.{lebLeft, textLeft, PrefixLeft}
 use Rattle.hbc_claims_io.specs.Refused as r-io
 use Rattle.hbc_claims_function.specs.Agree.{Same}
 use Rattle.hbc_claims_function.specs.Scans.{countOf}

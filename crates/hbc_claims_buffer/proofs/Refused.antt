@@ -13,7 +13,7 @@ use Rattle.hbc_buffer.specs.Series.{seriesAnswer}
 use Rattle.hbc_buffer.proofs.Exits.{apart}
 use Rattle.hbc_buffer_object.specs.declared.Object.{Object}
 use Rattle.hbc_buffer_object.specs.Object.{named, objectOf, objectPart}
-use Rattle.hbc_claims_io.specs.Refused.{plain-left}
+use Rattle.hbc_claims_io.proofs.Left.{plain-left}
 use Rattle.hbc_claims_buffer.specs.Refused.{LiteralLeft, SeriesLeft, ObjectLeft}
 use Rattle.hbc_claims_buffer.proofs.Parts.{refused-empty}
 

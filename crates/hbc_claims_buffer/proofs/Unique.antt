@@ -13,7 +13,7 @@ use Rattle.hbc_buffer.specs.declared.Series.{Series}
 use Rattle.hbc_buffer.specs.declared.Series.the-variants as series
 use Rattle.hbc_buffer.specs.Series.{saysSeries}
 use Rattle.hbc_buffer.proofs.Exits.{apart}
-use Rattle.hbc_claims_law.specs.Law.{same}
+use Rattle.hbc_claims_law.proofs.Law.{same}
 use Rattle.hbc_claims_buffer.specs.Unique.{Unique}
 
 -- an answer is known by what it says
@@ -23,14 +23,14 @@ oneLiteral (lit.Refused a n) (lit.Refused b m) e = cc
 oneLiteral (lit.Got v n) (lit.Refused b m) e = absurd (not-both refl e)
 oneLiteral (lit.Refused a n) (lit.Got w m) e = absurd (not-both e refl)
 
-oneSeries : (r q : Series) → saysSeries r ≡ saysSeries q → r ≡ q
+pub oneSeries : (r q : Series) → saysSeries r ≡ saysSeries q → r ≡ q
 oneSeries (series.Used n) (series.Used m) e = cc
 oneSeries (series.Refused a) (series.Refused b) e = cc
 oneSeries (series.Used n) (series.Refused b) e = let z : _≡_ {A = ℕ} 0 1 = cc in absurd (omega arith)
 oneSeries (series.Refused a) (series.Used m) e = let z : _≡_ {A = ℕ} 0 1 = cc in absurd (omega arith)
 
 -- one answer, and one value for each of two tables
-both : {R : Type 0} {r q : R} {a b c d : List ℕ} → (r ≡ q) × (_≡_ {A = List ℕ × List ℕ} (a, b) (c, d)) → (r ≡ q) × (a ≡ c) × (b ≡ d)
+pub both : {R : Type 0} {r q : R} {a b c d : List ℕ} → (r ≡ q) × (_≡_ {A = List ℕ × List ℕ} (a, b) (c, d)) → (r ≡ q) × (a ≡ c) × (b ≡ d)
 both e = let t = apart (e .1) in (e .0, t .0, t .1)
 
 pub unique : Unique

@@ -19,7 +19,7 @@ use Rattle.hbc_io.proofs.Exits.{reached}
 use Rattle.hbc_buffer_literal.specs.Literal.{widthOf}
 use Rattle.hbc_buffer.specs.Series.{Run, runOf, tagAt, headAt, runAt, step, placed, after, usedOf, seriesAnswer}
 use Rattle.hbc_buffer.proofs.Tags.{tag-on}
-use Rattle.hbc_claims_law.specs.Tests.{past}
+use Rattle.hbc_claims_law.proofs.Tests.{past}
 use Rattle.hbc_claims_buffer.specs.Used.{UsedWithin, UsedSmall}
 
 -- from c to n, and not past the end

@@ -19,7 +19,7 @@ use Rattle.hbc_debug_strings.specs.Strings.{stringsOf, stringWords, stringTable
 use Rattle.hbc_debug_scopes.specs.Scopes.{scopesOf, scopeWords, nameWords}
 use Rattle.hbc_debug_callees.specs.Callees.{calleesOf, calleeWords}
 use Rattle.hbc_debug.specs.Debug.{Tables, Contents, stringCount}
-use Rattle.hbc_claims_io.specs.Refused.{leb-left}
+use Rattle.hbc_claims_io.proofs.Left.{leb-left}
 use Rattle.hbc_claims_debug.specs.Left.{Left, BitsLeft, PastRows}
 
 pub left : Left

@@ -4,7 +4,7 @@ use Prim.Native.Nat.{ℕ}
 use Rattle.hbc_io.proofs.Exits.{alone}
 use Rattle.hbc_debug_parts.proofs.Alone.{oneParts}
 use Rattle.hbc_debug.proofs.Alone.{oneDebugged}
-use Rattle.hbc_claims_law.specs.Law.{same}
+use Rattle.hbc_claims_law.proofs.Law.{same}
 use Rattle.hbc_claims_debug.specs.Unique.{Unique}
 
 pub unique : Unique

@@ -14,7 +14,7 @@ use Rattle.hbc_debug_scopes.specs.Scopes.{scopesOf, scopeWords, nameWords}
 use Rattle.hbc_debug_callees.specs.Callees.{calleesOf, calleeWords}
 use Rattle.hbc_debug.specs.Debug.{Tables, Contents, stringCount, withRows, ReadDebug}
 use Rattle.hbc_debug.specs.declared.Debugged.the-variants as debugged
-use Rattle.hbc_claims_io.specs.Refused.{lebLeft}
+use Rattle.hbc_claims_io.specs.Left.{lebLeft}
 
 -- the words that a call was lent and does not write
 pub record Left : Type 0 where

@@ -10,7 +10,7 @@ use Rattle.hbc_function.specs.declared.Refreshed.{Refreshed}
 use Rattle.hbc_function.specs.declared.Refreshed.the-variants as refreshed
 use Rattle.hbc_function.specs.Refresh.{saysRefreshed}
 use Rattle.hbc_claims_function.proofs.Scans.{no-gives}
-use Rattle.hbc_claims_law.specs.Law.{same}
+use Rattle.hbc_claims_law.proofs.Law.{same}
 use Rattle.hbc_claims_function.specs.Unique.{Unique}
 
 -- an answer is known by what it says

@@ -14,7 +14,7 @@ use Rattle.hbc_io_leb.specs.Leb.{lebBytes, going}
 use Rattle.hbc_io_leb.specs.Answers.{ulebOf}
 use Rattle.hbc_io_strings.specs.Text.{zeroEnded, before0, prefixed}
 use Rattle.hbc_io_strings.proofs.Texts.{prefix-got, prefix-refused}
-use Rattle.hbc_claims_law.specs.Tests.{either}
+use Rattle.hbc_claims_law.proofs.Tests.{either}
 use Rattle.hbc_claims_io.specs.Left.{stays, lebLeft, textLeft, PrefixLeft, no-length, no-bytes}
 
 module _ (s : List ℕ) (c : Cursor) {k : Refusal} {n : Cursor} where

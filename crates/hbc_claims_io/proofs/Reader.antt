@@ -28,7 +28,7 @@ use Rattle.hbc_reader.proofs.ByteReader.read_bytes as of-read-bytes
 use Rattle.hbc_reader.proofs.ByteReader.part as of-part
 use Rattle.hbc_io.proofs.Alone.{oneU32, oneSpan, oneMoved}
 use Rattle.hbc_io_leb.proofs.Alone.{oneUleb}
-use Rattle.hbc_claims_law.specs.Law.{same}
+use Rattle.hbc_claims_law.proofs.Law.{same}
 use Rattle.hbc_claims_io.specs.Reader.{New, Position, Remaining, Seek, U32, Uleb128, Bytes, Part, Unique}
 
 -- ---- each clause is its fact

@@ -1,7 +1,7 @@
 -- Each call leaves one outcome: its promise fixes the answer and every lent word.
 use Rattle.hbc_io.proofs.Alone.{oneU8, oneU16, oneU32, oneU64, oneI8, oneI32, oneF64, oneSpan, oneMoved}
 use Rattle.hbc_io_leb.proofs.Alone.{oneUleb, oneSleb, oneHeld}
-use Rattle.hbc_claims_law.specs.Law.{same}
+use Rattle.hbc_claims_law.proofs.Law.{same}
 use Rattle.hbc_claims_io.specs.Unique.{Unique}
 
 pub unique : Unique

@@ -11,14 +11,14 @@ use Rattle.hbc_parsing_handlers.specs.Handlers.{saysListed}
 use Rattle.hbc_parsing_sections.specs.declared.ReadSections.{ReadSections}
 use Rattle.hbc_parsing_sections.specs.declared.ReadSections.the-variants as all
 use Rattle.hbc_parsing_sections.specs.Sections.{saysSections}
-use Rattle.hbc_claims_law.specs.Law.{same}
+use Rattle.hbc_claims_law.proofs.Law.{same}
 use Rattle.hbc_claims_parsing.specs.Unique.{Unique}
 
 not-both : {A : Type 0} {a : A} {r : Refusal} → gives a ≡ refuses r → ⊥
 not-both e = let z : _≡_ {A = ℕ} 0 1 = cc in omega arith
 
 -- two answers that say the same are the same
-oneListed : (r q : Listed) → saysListed r ≡ saysListed q → r ≡ q
+pub oneListed : (r q : Listed) → saysListed r ≡ saysListed q → r ≡ q
 oneListed (l.Rows n) (l.Rows m) e = cc
 oneListed (l.Refused a) (l.Refused b) e = cc
 oneListed (l.Rows n) (l.Refused b) e = absurd (not-both e)

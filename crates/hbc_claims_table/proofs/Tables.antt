@@ -16,7 +16,7 @@ use Rattle.hbc_io.proofs.Reading.{not-both}
 use Rattle.hbc_rows.specs.Rows.{entryAt}
 use Rattle.hbc_rows.proofs.RowsAt.{filled-at, filled-past}
 use Rattle.hbc_table.specs.Table.{wordsFrom, wordsAt, ReadTable}
-use Rattle.hbc_claims_law.specs.Tests.{either}
+use Rattle.hbc_claims_law.proofs.Tests.{either}
 use Rattle.hbc_claims_table.specs.Left.{TableLeft}
 
 -- an accepted read of n words

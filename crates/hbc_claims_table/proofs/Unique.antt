@@ -2,7 +2,7 @@
 use Rattle.hbc_io.proofs.Alone.{oneMoved}
 use Rattle.hbc_io.proofs.Exits.{alone}
 use Rattle.hbc_table_strings.proofs.Alone.{oneDecoded}
-use Rattle.hbc_claims_law.specs.Law.{same}
+use Rattle.hbc_claims_law.proofs.Law.{same}
 use Rattle.hbc_claims_table.specs.Unique.{Unique}
 
 pub unique : Unique

@@ -1,0 +1,59 @@
+// The calls on function headers.
+ghost use Rattle.hbc_c_function.specs.Function.{ToldFunctions, ToldRefresh, ToldFunction, ToldMeets};
+
+#[no_mangle]
+pub extern "C" fn hbc_read_functions(
+    file: &[u8],
+    layout: u32,
+    start: usize,
+    count: u32,
+    table: &mut [u32],
+) -> u64
+    ensures { λ r. ⌜ ToldFunctions (now (file .entry)) layout start count (now (table .entry)) r (now (table .exit)) ⌝ }
+{
+    hbc_c_function::read_functions(file, layout, start, count, table)
+}
+
+#[no_mangle]
+pub extern "C" fn hbc_refresh_functions(
+    file: &[u8],
+    layout: u32,
+    start: usize,
+    count: u32,
+    low: usize,
+    high: usize,
+    table: &mut [u32],
+) -> u64
+    ensures { λ r. ⌜ ToldRefresh (now (file .entry)) layout start count low high (now (table .entry)) r (now (table .exit)) ⌝ }
+{
+    hbc_c_function::refresh_functions(file, layout, start, count, low, high, table)
+}
+
+// One function, into the first row of the table.
+#[no_mangle]
+pub extern "C" fn hbc_read_function(
+    file: &[u8],
+    layout: u32,
+    start: usize,
+    id: u32,
+    table: &mut [u32],
+) -> u64
+    ensures { λ r. ⌜ ToldFunction (now (file .entry)) layout start id (now (table .entry)) r (now (table .exit)) ⌝ }
+{
+    hbc_c_function::read_function(file, layout, start, id, table)
+}
+
+// 1 if function `id` meets the bytes from low up to high, 0 if not.
+#[no_mangle]
+pub extern "C" fn hbc_function_meets(
+    file: &[u8],
+    layout: u32,
+    start: usize,
+    id: u32,
+    low: usize,
+    high: usize,
+) -> u64
+    ensures { λ r. ⌜ ToldMeets (now (file .entry)) layout start id low high r ⌝ }
+{
+    hbc_c_function::function_meets(file, layout, start, id, low, high)
+}
