@@ -2,10 +2,10 @@
 use mathlib.Core.Path.{_≡_, refl, sym, ap, _∙_}
 use mathlib.Core.Bool.{Bool, true, false, cond}
 use mathlib.Core.List.{List, []}
-use Prim.Native.Nat.{ℕ, _+_, _-_, _≤_, _<_}
+use Prim.Native.Nat.{ℕ, _+_, _-_, _≤_}
 use native.Mathlib.Omega.{arith}
-use borrow.Author.Tests.{ltb-false, leb-false}
-use lib.Dec.{ltb, leb, eqb}
+use borrow.Author.Tests.{ltb-false}
+use lib.Dec.{ltb}
 use lib.ListN.{length, take, drop, length-take}
 use Rattle.hbc_io.specs.Outcome.{limit}
 use Rattle.hbc_io.specs.Plain.{partOf, spanOf}
@@ -14,8 +14,9 @@ use Rattle.hbc_io.specs.Lends.{below, choose, written}
 use Rattle.hbc_io.specs.declared.Refusal.{Refusal}
 use Rattle.hbc_io.proofs.Exits.{refused, reached}
 use Rattle.hbc_debug_parts.specs.Places.{inFile, inSection}
-use Rattle.hbc_debug_parts.specs.Parts.{headerSize, dataStart, dataEnd, scopesAt, calleesAt, stringsAt, noPart, noParts, partAt, partsIn, noSection, isEmpty}
+use Rattle.hbc_debug_parts.specs.Parts.{headerSize, dataStart, dataEnd, scopesAt, calleesAt, stringsAt, noPart, noParts, partAt, partsIn, isEmpty}
 use Rattle.hbc_debug_parts.specs.Parts.{headerAt, partsOf, saysParts, FindParts, partBytes}
+use Rattle.hbc_debug_parts.proofs.Cases.{inside-of}
 use Rattle.hbc_debug_parts.specs.declared.InFile.{InFile}
 use Rattle.hbc_debug_parts.specs.declared.InSection.{InSection}
 use Rattle.hbc_debug_parts.specs.declared.InData.{InData}
@@ -62,15 +63,6 @@ parts-within left section h = go (ltb left (inSection (dataStart h) (dataEnd h) 
 
 never : {P : Type 0} {k : Refusal} {p : Parts} → refuses k ≡ gives p → P
 never e = let z : _≡_ {A = ℕ} 0 1 = cc in absurd (omega arith)
-
-inside-of : (len offset : ℕ) → isEmpty len offset ≡ false → offset < len
-unfolding isEmpty
-inside-of len offset e = go (eqb offset 0) (eqb offset noSection) e
-  where
-    go : (a b : Bool) → cond a true (cond b true (leb len offset)) ≡ false → offset < len
-    go false false h = leb-false len offset h
-    go true b h = let z : _≡_ {A = ℕ} 0 1 = cc in absurd (omega arith)
-    go false true h = let z : _≡_ {A = ℕ} 0 1 = cc in absurd (omega arith)
 
 pub found-within : (file : List ℕ) (offset : ℕ) (p : Parts) → partsOf file offset ≡ gives p → Within limit p
 unfolding partsOf choose

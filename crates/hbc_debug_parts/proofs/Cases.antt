@@ -35,6 +35,16 @@ module _ (left : ℕ) (section : InFile) (h : Header) (d past : InSection) (e : 
   unfolding partsIn
   in-inside p q r l a b c = rw (le-ltb left (inSection (dataStart h) (dataEnd h) .0) (rw past-is at l), a, b, c, e)
 
+-- an offset that is not for no section lies in the file
+pub inside-of : (len offset : ℕ) → isEmpty len offset ≡ false → offset < len
+unfolding isEmpty
+inside-of len offset e = go (eqb offset 0) (eqb offset noSection) e
+  where
+    go : (a b : Bool) → cond a true (cond b true (leb len offset)) ≡ false → offset < len
+    go false false h = leb-false len offset h
+    go true b h = let z : _≡_ {A = ℕ} 0 1 = cc in absurd (omega arith)
+    go false true h = let z : _≡_ {A = ℕ} 0 1 = cc in absurd (omega arith)
+
 -- ---- the ways out of find_parts
 module _ (file : List ℕ) (offset : ℕ) where
   pub refused-1 : {r : Refusal} → limit < length file → r ≡ refusalAt 1 0 → FindParts file offset (parts.Refused r)
@@ -48,13 +58,7 @@ module _ (file : List ℕ) (offset : ℕ) where
 
     module _ {t : Bool} (s : t ≡ isEmpty (length file) offset) (u : t ≡ false) where
       pub offset-inside : offset < length file
-      unfolding isEmpty
-      offset-inside = go (eqb offset 0) (eqb offset noSection) (sym s ∙ u)
-        where
-          go : (a b : Bool) → cond a true (cond b true (leb (length file) offset)) ≡ false → offset < length file
-          go false false h = leb-false (length file) offset h
-          go true b h = let z : _≡_ {A = ℕ} 0 1 = cc in absurd (omega arith)
-          go false true h = let z : _≡_ {A = ℕ} 0 1 = cc in absurd (omega arith)
+      offset-inside = inside-of (length file) offset (sym s ∙ u)
 
       pub refused-3 : {r : Refusal} → length file - offset < headerSize → r ≡ refusalAt 3 0 → FindParts file offset (parts.Refused r)
       unfolding partsOf below choose
