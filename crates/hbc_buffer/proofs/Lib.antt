@@ -3,4 +3,3 @@ pub mod Runs
 pub mod Fills
 pub mod Passes
 pub mod Exits
-pub mod Numbers

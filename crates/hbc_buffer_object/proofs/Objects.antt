@@ -9,9 +9,9 @@ use Rattle.hbc_io.specs.Answer.{Answer, gives, refuses}
 use Rattle.hbc_io.specs.Lends.{written}
 use Rattle.hbc_buffer.specs.declared.Series.{Series}
 use Rattle.hbc_buffer.specs.Series.{saysSeries, seriesTables, ReadSeries}
-use Rattle.hbc_buffer.proofs.Numbers.{Numbered, series-numbered}
 use Rattle.hbc_buffer_object.specs.declared.Object.{Object}
 use Rattle.hbc_buffer_object.specs.Object.{named, objectOf, saysObject, ObjectIn, ReadObject}
+use Rattle.hbc_buffer_object.proofs.Numbers.{Numbered, series-numbered}
 
 -- an object writes where its series does: its refusal's number is 0 only where it is accepted
 same-words : {W : Type 0} (b : Bool) (offset count : ℕ) (new old : W) (a : Answer ℕ) → Numbered a

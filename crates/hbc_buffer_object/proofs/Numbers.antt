@@ -1,5 +1,5 @@
 -- A refused series has a refusal's number, which is never 0.
-use Prim.Native.Nat.{ℕ, zero, suc, _-_, _*_, _+_}
+use Prim.Native.Nat.{ℕ, zero, suc, _+_, _*_}
 use mathlib.Core.Path.{_≡_}
 use mathlib.Core.List.{List}
 use mathlib.Core.Bool.{Bool, true, false, cond}
@@ -13,8 +13,7 @@ use Rattle.hbc_io.specs.Outcome.{Outcome, got, refused, valued, andThen, cursor
 use Rattle.hbc_io.specs.Answer.{Answer, gives, refuses, told}
 use Rattle.hbc_io.specs.Lends.{below, choose}
 use Rattle.hbc_io.specs.Plain.{plainAt}
-use Rattle.hbc_buffer_literal.specs.Literal.{widthOf}
-use Rattle.hbc_buffer.specs.Series.{Run, runOf, lengthAt, tagAt, headAt, runAt, step, placed, after, usedOf, seriesAnswer}
+use Rattle.hbc_buffer.specs.Series.{Run, lengthAt, tagAt, headAt, runAt, step, placed, after, usedOf, seriesAnswer}
 
 abbrev pub Numbered : {A : Type 0} → Answer A → Type 0
 Numbered (gives a) = Unit {0}
@@ -51,7 +50,7 @@ by-tag : (s : List ℕ) (c : Cursor) → Numbered (told (tagAt s c))
 unfolding tagAt
 by-tag s c =
     by-then (plainAt 1 s c) _ (by-plain 1 s c)
-    (λ b n. by-value (runOf (field 4 3 b)) (lengthAt s b n)
+    (λ b n. by-value _ (lengthAt s b n)
     (by-test (eqb (field 7 1 b) 0) (got (field 0 4 b) n) _ tt (by-value (λ (low : ℕ). field 0 4 b * 256 + low) (plainAt 1 s n) (by-plain 1 s n))))
 
 by-head : (f : ℕ) (s : List ℕ) (c : Cursor) → Numbered (told (headAt f s c))
@@ -67,7 +66,7 @@ by-step : (s : List ℕ) (t : Run) (c : Cursor) → Numbered (told (step s t c))
 unfolding step
 by-step s t c =
     by-then (runAt s t c) _ (by-run s t c)
-    (λ u n. by-value (λ (v : ℕ). runOf (u .tag) (u .left - 1)) (plainAt (widthOf (u .tag)) s n) (by-plain (widthOf (u .tag)) s n))
+    (λ u n. by-value _ (plainAt _ s n) (by-plain _ s n))
 
 by-after : (k : ℕ) (s : List ℕ) (c : Cursor) → Numbered (told (after k s c))
 unfolding after
