@@ -25,13 +25,11 @@ use Rattle.hbc_function_record.specs.Record.{sizeOf, largeOf, inlineOf, largeIn
 use Rattle.hbc_function_record.specs.Row.{width, rowWords}
 use Rattle.hbc_function_record.proofs.Records.{large-there}
 use Rattle.hbc_function_record.proofs.Rows.{words-length}
-use Rattle.hbc_function_header.specs.declared.Function.{Function}
-use Rattle.hbc_function_header.specs.declared.Function.the-variants as fun
 use Rattle.hbc_function_header.specs.declared.Ground.{Ground}
 use Rattle.hbc_function_header.specs.declared.Ground.the-variants as ground
 use Rattle.hbc_function_header.specs.declared.Where.{Where}
 use Rattle.hbc_function_header.specs.declared.Where.the-variants as wh
-use Rattle.hbc_function_header.specs.Header.{saysFunction, headerAt, groundBy, groundOf, groundAt, groundIn, whereOf, whereAt, found, recordAt, functionAt, readFunction, rowOf, rowInto}
+use Rattle.hbc_function_header.specs.Header.{headerAt, groundBy, groundOf, groundAt, groundIn, whereOf, whereAt, found, recordAt, functionAt, readFunction, rowOf, rowInto}
 
 -- ---- the place of a header
 
@@ -182,10 +180,10 @@ row-whole before words e =
     let l : 0 * length words + length words ≤ length before = omega arith in
     rw (le-ltb (length before) (0 * length words + length words) l) (whole-by before words (0 * length words) z e)
 
-pub row-read : {f : Function} {r : Record} (a : Answer Record) (before words : List ℕ) {row : List ℕ} → length before ≡ width → saysFunction f ≡ a → f ≡ fun.Read r
-    → words ≡ rowWords r → row ≡ putRow (length words) before 0 words → row ≡ rowOf a before
-row-read {r = r} a before words h e f g p =
-    p ∙ row-whole before words (ap length g ∙ words-length r ∙ sym h) ∙ g ∙ ap (λ (o : Answer Record). rowOf o before) (sym (ap saysFunction f) ∙ e)
+pub row-read : {r : Record} (a : Answer Record) (before words : List ℕ) {row : List ℕ} → length before ≡ width → gives r ≡ a → words ≡ rowWords r
+    → row ≡ putRow (length words) before 0 words → row ≡ rowOf a before
+row-read {r = r} a before words h e g p =
+    p ∙ row-whole before words (ap length g ∙ words-length r ∙ sym h) ∙ g ∙ ap (λ (o : Answer Record). rowOf o before) e
 
 module _ (a : Answer Record) (before : List ℕ) where
   pub into-row : length before ≡ width → rowOf a before ≡ rowInto a before
@@ -203,3 +201,8 @@ stays-by k place false before = refl
 pub into-refused : {a : Answer Record} {k place : ℕ} (before : List ℕ) → refusedAt k place ≡ a → before ≡ rowInto a before
 unfolding rowInto
 into-refused {a} {k} {place} before e = rw (← e) (stays-by k place (eqb (length before) width) before)
+
+pub row-into : (s : List ℕ) (layout : Layout) (start i : ℕ) (before : List ℕ) {row : List ℕ} {at : ℕ} → row ≡ rowOf (recordAt s layout at i) before → at ≡ headerAt layout start i
+    → length s ≤ limit → start ≤ length s → length before ≡ width → row ≡ rowInto (readFunction s layout start i) before
+row-into s layout start i before e f h k l =
+    e ∙ ap (λ (a : Answer Record). rowOf a before) (is-function s layout start i f ∙ read-at s layout start i h k) ∙ into-row (readFunction s layout start i) before l

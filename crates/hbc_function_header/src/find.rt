@@ -88,11 +88,15 @@ pub(crate) fn row(s: &[u8], layout: Layout, at: usize, id: u32, row: &mut [u32])
     requires { ⌜ length (now row) ≡ width ⌝ }
     ensures { λ _. ⌜ now (row .exit) ≡ rowOf (recordAt (now (s .entry)) layout at id) (now (row .entry)) ⌝ }
 {
-    match read(s, layout, at, id) {
-        Function::Read(r) => {
-            let words = row_words(r);
+    match where_at(s, layout, at) {
+        Where::Inline => {
+            let words = row_words(inline_record(s, layout, at, id));
             put_row(row, 0, &words);
         }
-        Function::Refused(_) => {}
+        Where::Large(place) => {
+            let words = row_words(large_record(s, layout, place, id));
+            put_row(row, 0, &words);
+        }
+        Where::Refused(_) => {}
     }
 }

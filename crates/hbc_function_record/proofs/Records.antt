@@ -21,9 +21,16 @@ use Rattle.hbc_function_record.specs.Record.{sizeOf, largeOf, legacyOf, 
 use Rattle.hbc_function_record.specs.Private.{isThere}
 
 -- two words of a header as one number
-pub joined : (s : List ℕ) (at n : ℕ) {lo hi : ℕ} → at + 8 + n ≤ length s → lo ≡ wordAt 8 s at → hi ≡ wordAt n s (at + 8) → lo + 2 ^ 64 * hi ≡ leAt s at (8 + n)
-joined s at n h p q =
-    rw (p, q, word-there 8 s at (omega arith), word-there n s (at + 8) h) (sym (le-add s at 8 n (omega arith)))
+pub joined : (s : List ℕ) (at n : ℕ) {lo hi : ℕ} → at + 8 + n ≤ length s → lo ≡ leAt s at 8 → hi ≡ leAt s (at + 8) n → lo + 2 ^ 64 * hi ≡ leAt s at (8 + n)
+joined s at n h p q = rw (p, q) (sym (le-add s at 8 n (omega arith)))
+
+-- and two halves of a word
+pub halved : (s : List ℕ) (at : ℕ) {lo hi : ℕ} → at + 8 ≤ length s → lo ≡ wordAt 4 s at → hi ≡ wordAt 4 s (at + 4) → lo + hi * 2 ^ 32 ≡ leAt s at 8
+halved s at h p q =
+    let a = p ∙ word-there 4 s at (omega arith) in
+    let b = q ∙ word-there 4 s (at + 4) (omega arith) in
+    let e = le-add s at 4 4 (omega arith) in
+    omega (arith, a, b, e)
 
 -- ---- whether the bytes are there
 

@@ -13,7 +13,6 @@ use crate::large_size;
 use crate::words::cut;
 use hbc_io::u8_at;
 use hbc_io::u32_at;
-use hbc_io::u64_at;
 
 // The inline legacy record: the fields of lo + 2^64 * hi.
 pub(crate) fn legacy_inline(lo: u64, hi: u64, id: u32) -> Legacy
@@ -57,13 +56,21 @@ pub(crate) fn modern_inline(lo: u64, hi: u64, id: u32) -> Modern
     }
 }
 
+// The number of 8 bytes that are there, as two of 4: each of those is one load.
+fn u64_here(s: &[u8], at: usize) -> u64
+    requires { ⌜ at + 8 ≤ length (now s) ⌝ }
+    ensures { λ r. ⌜ r ≡ leAt (now (s .entry)) at 8 ⌝ }
+{
+    u32_at(s, at) as u64 + (u32_at(s, at + 4) as u64) * 0x1_0000_0000
+}
+
 // The record of the inline header at `at`.
 pub(crate) fn legacy_here(s: &[u8], at: usize, id: u32) -> Legacy
     requires { ⌜ at + sizeOf Legacy16 ≤ length (now s) ⌝ }
     ensures { λ r. ⌜ r ≡ legacyOf id (leAt (now (s .entry)) at (sizeOf Legacy16)) ⌝ }
 {
-    let lo = u64_at(s, at);
-    let hi = u64_at(s, at + 8);
+    let lo = u64_here(s, at);
+    let hi = u64_here(s, at + 8);
     legacy_inline(lo, hi, id)
 }
 
@@ -71,7 +78,7 @@ pub(crate) fn modern_here(s: &[u8], at: usize, id: u32) -> Modern
     requires { ⌜ at + sizeOf Modern12 ≤ length (now s) ⌝ }
     ensures { λ r. ⌜ r ≡ modernOf id (leAt (now (s .entry)) at (sizeOf Modern12)) ⌝ }
 {
-    let lo = u64_at(s, at);
+    let lo = u64_here(s, at);
     let hi = u32_at(s, at + 8) as u64;
     modern_inline(lo, hi, id)
 }
