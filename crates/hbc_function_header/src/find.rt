@@ -11,12 +11,12 @@ use crate::Ground;
 use crate::Reading;
 use crate::Where;
 use hbc_function_record::Layout;
+use hbc_function_record::Link;
+use hbc_function_record::header_link;
 use hbc_function_record::header_size;
 use hbc_function_record::inline_record;
-use hbc_function_record::large_place;
 use hbc_function_record::large_record;
 use hbc_function_record::large_size;
-use hbc_function_record::overflows;
 use hbc_function_record::row_words;
 use hbc_io::refuse;
 use hbc_rows::put_row;
@@ -28,11 +28,10 @@ pub(crate) fn ground_of(s: &[u8], layout: Layout, at: usize) -> Ground
     if s.len() < at + header_size(layout) {
         return Ground::None;
     }
-    let r = inline_record(s, layout, at, 0);
-    if overflows(r) {
-        return Ground::Large(at, large_place(r));
+    match header_link(s, layout, at) {
+        Link::Own => Ground::Inline(at),
+        Link::Large(place) => Ground::Large(at, place),
     }
-    Ground::Inline(at)
 }
 
 // Where the record is, by what the function is read from and the bytes of a large header.
