@@ -8,7 +8,7 @@ use native.Mathlib.Nat.{le-refl}
 use lib.ListN.{length}
 use lib.Dec.{ltb}
 use borrow.Author.Tests.{ltb-false}
-use Rattle.hbc_io.specs.Lends.{below, choose}
+use Rattle.hbc_io.specs.Lends.{below}
 use Rattle.hbc_bits.specs.Bits.{leAt}
 use Rattle.hbc_function_record.specs.declared.Layout.{Layout}
 use Rattle.hbc_function_record.specs.declared.Layout.the-variants as lay
@@ -16,12 +16,14 @@ use Rattle.hbc_function_record.specs.declared.Legacy.{Legacy}
 use Rattle.hbc_function_record.specs.declared.Modern.{Modern}
 use Rattle.hbc_function_record.specs.declared.Record.{Record}
 use Rattle.hbc_function_record.specs.declared.Record.the-variants as rec
+use Rattle.hbc_function_record.specs.declared.Link.{Link}
+use Rattle.hbc_function_record.specs.declared.Link.the-variants as link
 use Rattle.hbc_function_header.specs.declared.Ground.{Ground}
 use Rattle.hbc_function_header.specs.declared.Ground.the-variants as ground
 use Rattle.hbc_function_header.specs.declared.Where.{Where}
 use Rattle.hbc_function_header.specs.declared.Where.the-variants as wh
 use Rattle.hbc_io.specs.Answer.{Answer, gives, asked}
-use Rattle.hbc_function_record.specs.Record.{sizeOf, largeOf, inlineOf, largeAt, flagsOf, placeOf, legacyLarge, modernLarge, overflowed}
+use Rattle.hbc_function_record.specs.Record.{sizeOf, largeOf, inlineOf, largeAt, linkOf, legacyLarge, modernLarge}
 use Rattle.hbc_function_header.specs.Header.{headerAt, groundBy, groundOf, groundAt, whereOf, whereAt, found, recordAt, functionAt}
 use Rattle.hbc_function_header.specs.Meets.{overlap, groundMeets, meets}
 use Rattle.hbc_claims_function.specs.Agree.{Agree, Same}
@@ -79,25 +81,10 @@ or-right false q e = e
 or-right true q e = let z : q ≡ false = cc in z
 
 -- its own header is apart from the span, whether it is flagged or not
-own-apart : (n m low high at place : ℕ) (flag : Bool) → groundMeets n m low high (cond flag (ground.Large at place) (ground.Inline at)) ≡ false → overlap at n low high ≡ false
+own-apart : (n m low high at : ℕ) (l : Link) → groundMeets n m low high (groundBy at l) ≡ false → overlap at n low high ≡ false
 unfolding groundMeets
-own-apart n m low high at place false o = o
-own-apart n m low high at place true o = or-left (overlap at n low high) (overlap place m low high) o
-
--- two ways to read what was found, the same where the bytes are
-module _ (s : List ℕ) (n m low high : ℕ) (fa fb : Where → Answer Record) (at place : ℕ) (here : fa wh.Inline ≡ fb wh.Inline)
-    (there : overlap place m low high ≡ false → fa (wh.Large place) ≡ fb (wh.Large place)) (nowhere : (k : ℕ) → fa (wh.Refused k) ≡ fb (wh.Refused k)) where
-  same-large : (past cut : Bool) → overlap place m low high ≡ false
-      → fa (cond past (wh.Refused 2) (cond cut (wh.Refused 3) (wh.Large place))) ≡ fb (cond past (wh.Refused 2) (cond cut (wh.Refused 3) (wh.Large place)))
-  same-large true cut o = nowhere 2
-  same-large false true o = nowhere 3
-  same-large false false o = there o
-
-  same-found : (flag : Bool) → groundMeets n m low high (cond flag (ground.Large at place) (ground.Inline at)) ≡ false
-      → fa (whereOf s m (cond flag (ground.Large at place) (ground.Inline at))) ≡ fb (whereOf s m (cond flag (ground.Large at place) (ground.Inline at)))
-  unfolding groundMeets whereOf below
-  same-found false o = here
-  same-found true o = same-large (ltb (length s) place) (ltb (length s) (place + m)) (or-right (overlap at n low high) (overlap place m low high) o)
+own-apart n m low high at link.Own o = o
+own-apart n m low high at (link.Large place) o = or-left (overlap at n low high) (overlap place m low high) o
 
 where-same : (a b : List ℕ) (m : ℕ) (g : Ground) → length a ≡ length b → whereOf a m g ≡ whereOf b m g
 unfolding whereOf below
@@ -105,47 +92,48 @@ where-same a b m ground.None e = refl
 where-same a b m (ground.Inline at) e = refl
 where-same a b m (ground.Large at place) e = rw e
 
--- a layout by the bytes n of its header, m of a large one, what the header's number says of the flag and the packed place, and what is found: where that
--- is the same in both files by the header's own bytes, by a large header's, and where it is refused, the function is
-module _ {a b : List ℕ} {low high : ℕ} (v : Same a b low high) (n m at : ℕ) (flag : ℕ → Bool) (place : ℕ → ℕ) (found : List ℕ → Where → Answer Record)
-    (here : leAt a at n ≡ leAt b at n → found a wh.Inline ≡ found b wh.Inline) (there : (p : ℕ) → Agree a b p (p + m) → found a (wh.Large p) ≡ found b (wh.Large p))
-    (nowhere : (k : ℕ) → found a (wh.Refused k) ≡ found b (wh.Refused k)) where
-  abbrev groundFor : List ℕ → Ground
-  groundFor s = groundBy s at n (flag (leAt s at n)) (place (leAt s at n))
+-- what is found is the same in both files, where the header's own number is and a large header that it is flagged for does not meet the span
+module _ {a b : List ℕ} {low high : ℕ} (v : Same a b low high) (layout : Layout) (at i : ℕ) (e : leAt a at (sizeOf layout) ≡ leAt b at (sizeOf layout)) where
+  large-found : (place : ℕ) → overlap place (largeOf layout) low high ≡ false → (past cut : Bool)
+      → found a layout at i (cond past (wh.Refused 2) (cond cut (wh.Refused 3) (wh.Large place))) ≡ found b layout at i (cond past (wh.Refused 2) (cond cut (wh.Refused 3) (wh.Large place)))
+  large-found place o true cut = refl
+  large-found place o false true = refl
+  large-found place o false false = ap gives (large-same a b layout place i (agrees v place (largeOf layout) o))
 
-  -- by whether the header runs past the end
-  same-by : (cut : Bool) → ltb (length b) (at + n) ≡ cut → groundMeets n m low high (groundFor b) ≡ false → found a (whereOf a m (groundFor a)) ≡ found b (whereOf b m (groundFor b))
-  unfolding groundBy whereOf below choose
-  same-by true c o = rw (v .long, c) (nowhere 3)
-  same-by false c o =
-      let p = place (leAt b at n) in
-      let f = flag (leAt b at n) in
-      let g = cond f (ground.Large at p) (ground.Inline at) in
-      let q : groundMeets n m low high g ≡ false = rw c at o in
-      let e : leAt a at n ≡ leAt b at n = same-num (agrees v at n (own-apart n m low high at p f q)) at n (le-refl at) (le-refl (at + n)) in
-      let h : groundFor a ≡ g = rw (v .long, c, e) in
-      let k : groundFor b ≡ g = rw c in
-      ap (λ (x : Ground). found a (whereOf a m x)) h
-      ∙ ap (found a) (where-same a b m g (v .long))
-      ∙ same-found b n m low high (found a) (found b) at p (here e) (λ w. there p (agrees v p m w)) nowhere f q
-      ∙ ap (λ (x : Ground). found b (whereOf b m x)) (sym k)
+  same-found : (l : Link) → groundMeets (sizeOf layout) (largeOf layout) low high (groundBy at l) ≡ false
+      → found a layout at i (whereOf b (largeOf layout) (groundBy at l)) ≡ found b layout at i (whereOf b (largeOf layout) (groundBy at l))
+  unfolding groundMeets whereOf below
+  same-found link.Own o = ap (λ (n : ℕ). gives (inlineOf layout i n)) e
+  same-found (link.Large place) o =
+      large-found place (or-right (overlap at (sizeOf layout) low high) (overlap place (largeOf layout) low high) o) (ltb (length b) place) (ltb (length b) (place + largeOf layout))
 
 module _ {a b : List ℕ} {low high : ℕ} (v : Same a b low high) (i : ℕ) (layout : Layout) where
-  record-same : (at : ℕ) → groundMeets (sizeOf layout) (largeOf layout) low high (groundOf b layout at) ≡ false → recordAt a layout at i ≡ recordAt b layout at i
-  unfolding recordAt whereAt groundOf
-  record-same at o =
-      same-by v (sizeOf layout) (largeOf layout) at (λ n. overflowed (flagsOf (inlineOf layout 0 n))) (λ n. placeOf (inlineOf layout 0 n)) (λ s. found s layout at i)
-      (ap (λ (n : ℕ). gives (inlineOf layout i n))) (λ p w. ap gives (large-same a b layout p i w)) (λ k. refl) (ltb (length b) (at + sizeOf layout)) refl o
+  -- by whether the header runs past the end
+  same-by : (at : ℕ) (cut : Bool) → ltb (length b) (at + sizeOf layout) ≡ cut → groundMeets (sizeOf layout) (largeOf layout) low high (groundOf b layout at) ≡ false
+      → recordAt a layout at i ≡ recordAt b layout at i
+  unfolding recordAt whereAt groundOf whereOf below
+  same-by at true c o = rw (v .long, c)
+  same-by at false c o =
+      let l = linkOf (inlineOf layout 0 (leAt b at (sizeOf layout))) in
+      let q : groundMeets (sizeOf layout) (largeOf layout) low high (groundBy at l) ≡ false = rw c at o in
+      let e : leAt a at (sizeOf layout) ≡ leAt b at (sizeOf layout) =
+      same-num (agrees v at (sizeOf layout) (own-apart (sizeOf layout) (largeOf layout) low high at l q)) at (sizeOf layout) (le-refl at) (le-refl (at + sizeOf layout)) in
+      let h : groundOf a layout at ≡ groundBy at l = rw (v .long, c, e) in
+      let k : groundOf b layout at ≡ groundBy at l = rw c in
+      ap (λ (x : Ground). found a layout at i (whereOf a (largeOf layout) x)) h
+      ∙ ap (found a layout at i) (where-same a b (largeOf layout) (groundBy at l) (v .long))
+      ∙ same-found v layout at i e l q
+      ∙ ap (λ (x : Ground). found b layout at i (whereOf b (largeOf layout) x)) (sym k)
 
   pub function-same : (start : ℕ) → meets b layout start low high i ≡ false → functionAt a layout start i ≡ functionAt b layout start i
   unfolding meets groundAt functionAt
-  function-same start m = record-same (headerAt layout start i) m
+  function-same start m = same-by (headerAt layout start i) (ltb (length b) (headerAt layout start i + sizeOf layout)) refl m
 
 -- ---- a function that is read has its header in the file
 
 ends-by : (s : List ℕ) (layout : Layout) (at i : ℕ) (cut : Bool) → ltb (length s) (at + sizeOf layout) ≡ cut → asked (recordAt s layout at i) ≡ gives tt
     → at + sizeOf layout ≤ length s
-unfolding recordAt whereAt groundOf groundBy whereOf below
+unfolding recordAt whereAt groundOf whereOf below
 ends-by s layout at i true c e =
     let f : asked (found s layout at i (wh.Refused 3)) ≡ gives tt = rw c at e in
     let z : _≡_ {A = ℕ} 0 1 = cc in absurd (omega arith)

@@ -7,7 +7,8 @@ use Rattle.hbc_function_record.specs.declared.Layout.{Layout}
 use Rattle.hbc_function_record.specs.declared.Layout.the-variants as lay
 use Rattle.hbc_function_record.specs.declared.Legacy.{Legacy}
 use Rattle.hbc_function_record.specs.declared.Modern.{Modern}
-use Rattle.hbc_function_record.specs.Row.{legacyWords, modernWords, numberIn, ROW_LAYOUT, ROW_ID, ROW_OFFSET, ROW_PARAM_COUNT, ROW_SIZE, ROW_NAME, ROW_INFO_OFFSET, ROW_FRAME_SIZE, ROW_FLAGS}
+use Rattle.hbc_function_record.specs.Row.{legacyWords, modernWords, numberIn}
+use Rattle.hbc_function_record.specs.Row.{ROW_LAYOUT, ROW_ID, ROW_OFFSET, ROW_PARAM_COUNT, ROW_SIZE, ROW_NAME, ROW_INFO_OFFSET, ROW_FRAME_SIZE, ROW_FLAGS}
 
 abbrev pub At : List ℕ → ℕ → ℕ → Type 0
 At words place value = getD words place 0 ≡ value

@@ -4,8 +4,7 @@ use Rattle.hbc_function_record.proofs.header_size.Reads as of-header-size
 use Rattle.hbc_function_record.proofs.large_size.Reads as of-large-size
 use Rattle.hbc_function_record.proofs.inline_record.Reads as of-inline-record
 use Rattle.hbc_function_record.proofs.large_record.Reads as of-large-record
-use Rattle.hbc_function_record.proofs.overflows.Reads as of-overflows
-use Rattle.hbc_function_record.proofs.large_place.Reads as of-large-place
+use Rattle.hbc_function_record.proofs.header_link.Reads as of-header-link
 use Rattle.hbc_function_record.proofs.row_words.Reads as of-row-words
 use Rattle.hbc_function_header.proofs.read_function.Reads as of-read-function
 use Rattle.hbc_function_header.proofs.check_function.Reads as of-check-function
@@ -22,8 +21,7 @@ pub record Unique : Type 0 where
   pub large_size : One of-large-size.Learnt
   pub «inline_record» : One of-inline-record.Learnt
   pub «large_record» : One of-large-record.Learnt
-  pub overflows : One of-overflows.Learnt
-  pub large_place : One of-large-place.Learnt
+  pub header_link : One of-header-link.Learnt
   pub row_words : One of-row-words.Learnt
   pub read_function : One of-read-function.Learnt
   pub check_function : One of-check-function.Learnt

@@ -35,8 +35,11 @@ refreshAnswer s layout start count low high words =
     opened s start (spanned s low high (roomed words count (fitted s layout start count
     (scan (meets s layout start low high) (functionAt s layout start) count))))
 
+-- t with the rows of those of functions 0 to n - 1 that meet the span
+abbrev pub putMet : List ℕ → Layout → ℕ → ℕ → ℕ → List ℕ → ℕ → List ℕ
+putMet s layout start low high t n = putRows (meets s layout start low high) (functionAt s layout start) t n
+
 -- what a refresh promises: the answer, and what the lent table has become
 abbrev pub RefreshFunctions : List ℕ → Layout → ℕ → ℕ → ℕ → ℕ → List ℕ → Refreshed → List ℕ → Type 0
 RefreshFunctions s layout start count low high before =
-    Lends saysRefreshed (refreshAnswer s layout start count low high (length before))
-    (putRows (meets s layout start low high) (functionAt s layout start) before count) before
+    Lends saysRefreshed (refreshAnswer s layout start count low high (length before)) (putMet s layout start low high before count) before

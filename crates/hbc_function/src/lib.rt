@@ -10,7 +10,7 @@ ghost use Rattle.hbc_function_record.specs.Row.{width};
 ghost use Rattle.hbc_function_header.specs.Header.{saysReading, functionAt};
 ghost use Rattle.hbc_function_header.specs.Meets.{meets};
 ghost use Rattle.hbc_function.specs.Table.{all, scan, rowBy, putRows, ReadFunctions};
-ghost use Rattle.hbc_function.specs.Refresh.{saysRefreshed, held, RefreshFunctions};
+ghost use Rattle.hbc_function.specs.Refresh.{saysRefreshed, held, putMet, RefreshFunctions};
 ghost use Rattle.hbc_function.specs.Private.{Next};
 use hbc_function_header::Reading;
 use hbc_function_header::check_function;
@@ -174,7 +174,7 @@ fn patch_met(
     requires { ⌜ Next (meets (now s) layout start low high) 0 count first ⌝ }
     requires { ⌜ scan (meets (now s) layout start low high) (functionAt (now s) layout start) count ≡ gives n ⌝ }
     requires { ⌜ count * width ≤ length (now table) ⌝ }
-    ensures { λ _. ⌜ now (table .exit) ≡ putRows (meets (now (s .entry)) layout start low high) (functionAt (now (s .entry)) layout start) (now (table .entry)) count ⌝ }
+    ensures { λ _. ⌜ now (table .exit) ≡ putMet (now (s .entry)) layout start low high (now (table .entry)) count ⌝ }
 {
     let mut left = n;
     let mut id = first;

@@ -13,7 +13,7 @@ use Rattle.hbc_bits.specs.Bits.{leAt}
 use Rattle.hbc_io.specs.Outcome.{limit, refusalAt}
 use Rattle.hbc_io.specs.declared.Refusal.{Refusal}
 use Rattle.hbc_io.specs.Answer.{Answer, gives, refuses, refusedAt}
-use Rattle.hbc_io.specs.Lends.{below, choose}
+use Rattle.hbc_io.specs.Lends.{below}
 use Rattle.hbc_io.specs.Plain.{wordAt}
 use Rattle.hbc_io.proofs.Exits.{reached}
 use Rattle.hbc_io.proofs.Plains.{word-there}
@@ -21,17 +21,16 @@ use Rattle.hbc_rows.specs.Rows.{putRow}
 use Rattle.hbc_function_record.specs.declared.Layout.{Layout}
 use Rattle.hbc_function_record.specs.declared.Layout.the-variants as lay
 use Rattle.hbc_function_record.specs.declared.Record.{Record}
-use Rattle.hbc_function_record.specs.Record.{sizeOf, largeOf, inlineOf, largeIn, flagsOf, overflowed, placeOf}
+use Rattle.hbc_function_record.specs.declared.Link.{Link}
+use Rattle.hbc_function_record.specs.Record.{sizeOf, largeOf, inlineOf, largeIn, linkOf}
 use Rattle.hbc_function_record.specs.Row.{width, rowWords}
 use Rattle.hbc_function_record.proofs.Records.{large-there}
 use Rattle.hbc_function_record.proofs.Rows.{words-length}
-use Rattle.hbc_function_header.specs.declared.Function.{Function}
-use Rattle.hbc_function_header.specs.declared.Function.the-variants as fun
 use Rattle.hbc_function_header.specs.declared.Ground.{Ground}
 use Rattle.hbc_function_header.specs.declared.Ground.the-variants as ground
 use Rattle.hbc_function_header.specs.declared.Where.{Where}
 use Rattle.hbc_function_header.specs.declared.Where.the-variants as wh
-use Rattle.hbc_function_header.specs.Header.{saysFunction, headerAt, groundBy, groundOf, groundAt, groundIn, whereOf, whereAt, found, recordAt, functionAt, readFunction, rowOf, rowInto}
+use Rattle.hbc_function_header.specs.Header.{headerAt, groundBy, groundOf, groundAt, groundIn, whereOf, whereAt, found, recordAt, functionAt, readFunction, rowOf, rowInto}
 
 -- ---- the place of a header
 
@@ -47,20 +46,13 @@ size-times lay.Modern12 i h = omega arith
 
 module _ (s : List ℕ) (layout : Layout) (at : ℕ) where
   pub ground-cut : length s < at + sizeOf layout → ground.None ≡ groundOf s layout at
-  unfolding groundOf groundBy below
+  unfolding groundOf below
   ground-cut h = sym (rw (lt-ltb (length s) (at + sizeOf layout) h))
 
-  module _ {r : Record} (e : r ≡ inlineOf layout 0 (wordAt (sizeOf layout) s at)) (h : at + sizeOf layout ≤ length s) where
-    here : inlineOf layout 0 (leAt s at (sizeOf layout)) ≡ r
-    here = sym (e ∙ ap (inlineOf layout 0) (word-there (sizeOf layout) s at h))
-
-    pub ground-own : overflowed (flagsOf r) ≡ false → ground.Inline at ≡ groundOf s layout at
-    unfolding groundOf groundBy below choose
-    ground-own f = sym (rw (here, le-ltb (length s) (at + sizeOf layout) h, f))
-
-    pub ground-large : {p : ℕ} → overflowed (flagsOf r) ≡ true → p ≡ placeOf r → ground.Large at p ≡ groundOf s layout at
-    unfolding groundOf groundBy below choose
-    ground-large f q = sym (rw (here, le-ltb (length s) (at + sizeOf layout) h, f, q))
+  pub ground-by : {l v : Link} → at + sizeOf layout ≤ length s → l ≡ linkOf (inlineOf layout 0 (wordAt (sizeOf layout) s at)) → l ≡ v → groundBy at v ≡ groundOf s layout at
+  unfolding groundOf below
+  ground-by h e f =
+      ap (groundBy at) (sym f ∙ e ∙ ap (λ (n : ℕ). linkOf (inlineOf layout 0 n)) (word-there (sizeOf layout) s at h)) ∙ sym (rw (le-ltb (length s) (at + sizeOf layout) h))
 
 -- ---- where the record is
 
@@ -100,16 +92,15 @@ module _ (s : List ℕ) (n : ℕ) where
       rw (← q) (b .0)
 
 -- and its own header, where it is found in that
-here-by : (s : List ℕ) (m at n : ℕ) (flag : Bool) (place : ℕ) (b : Bool) → ltb (length s) (at + n) ≡ b
-    → whereOf s m (cond b ground.None (choose flag (ground.Large at place) (ground.Inline at))) ≡ wh.Inline → at + n ≤ length s
+here-by : (s : List ℕ) (m at n : ℕ) (g : Ground) (b : Bool) → ltb (length s) (at + n) ≡ b → whereOf s m (cond b ground.None g) ≡ wh.Inline → at + n ≤ length s
 unfolding whereOf
-here-by s m at n flag place true e f = absurd (no-inline f)
-here-by s m at n flag place false e f = ltb-false (length s) (at + n) e
+here-by s m at n g true e f = absurd (no-inline f)
+here-by s m at n g false e f = ltb-false (length s) (at + n) e
 
 module _ (s : List ℕ) (layout : Layout) (at : ℕ) where
   pub where-here : whereAt s layout at ≡ wh.Inline → at + sizeOf layout ≤ length s
-  unfolding whereAt groundOf groundBy below
-  where-here f = here-by s (largeOf layout) at (sizeOf layout) _ _ (ltb (length s) (at + sizeOf layout)) refl f
+  unfolding whereAt groundOf below
+  where-here f = here-by s (largeOf layout) at (sizeOf layout) _ (ltb (length s) (at + sizeOf layout)) refl f
 
   pub where-at : {g : Ground} {n : ℕ} → g ≡ groundOf s layout at → n ≡ largeOf layout → whereOf s n g ≡ whereAt s layout at
   unfolding whereAt
@@ -182,10 +173,10 @@ row-whole before words e =
     let l : 0 * length words + length words ≤ length before = omega arith in
     rw (le-ltb (length before) (0 * length words + length words) l) (whole-by before words (0 * length words) z e)
 
-pub row-read : {f : Function} {r : Record} (a : Answer Record) (before words : List ℕ) {row : List ℕ} → length before ≡ width → saysFunction f ≡ a → f ≡ fun.Read r
-    → words ≡ rowWords r → row ≡ putRow (length words) before 0 words → row ≡ rowOf a before
-row-read {r = r} a before words h e f g p =
-    p ∙ row-whole before words (ap length g ∙ words-length r ∙ sym h) ∙ g ∙ ap (λ (o : Answer Record). rowOf o before) (sym (ap saysFunction f) ∙ e)
+pub row-read : {r : Record} (a : Answer Record) (before words : List ℕ) {row : List ℕ} → length before ≡ width → gives r ≡ a → words ≡ rowWords r
+    → row ≡ putRow (length words) before 0 words → row ≡ rowOf a before
+row-read {r = r} a before words h e g p =
+    p ∙ row-whole before words (ap length g ∙ words-length r ∙ sym h) ∙ g ∙ ap (λ (o : Answer Record). rowOf o before) e
 
 module _ (a : Answer Record) (before : List ℕ) where
   pub into-row : length before ≡ width → rowOf a before ≡ rowInto a before
@@ -203,3 +194,8 @@ stays-by k place false before = refl
 pub into-refused : {a : Answer Record} {k place : ℕ} (before : List ℕ) → refusedAt k place ≡ a → before ≡ rowInto a before
 unfolding rowInto
 into-refused {a} {k} {place} before e = rw (← e) (stays-by k place (eqb (length before) width) before)
+
+pub row-into : (s : List ℕ) (layout : Layout) (start i : ℕ) (before : List ℕ) {row : List ℕ} {at : ℕ} → row ≡ rowOf (recordAt s layout at i) before → at ≡ headerAt layout start i
+    → length s ≤ limit → start ≤ length s → length before ≡ width → row ≡ rowInto (readFunction s layout start i) before
+row-into s layout start i before e f h k l =
+    e ∙ ap (λ (a : Answer Record). rowOf a before) (is-function s layout start i f ∙ read-at s layout start i h k) ∙ into-row (readFunction s layout start i) before l

@@ -1,16 +1,18 @@
 -- docs/FORMAT.md, sections 3.5 and 3.7: one function, what it is read from, where its record is, and the record or the refusal; its row.
 use Prim.Native.Nat.{ℕ, _+_, _*_}
 use mathlib.Core.List.{List}
-use mathlib.Core.Bool.{Bool, cond}
+use mathlib.Core.Bool.{cond}
 use lib.ListN.{length}
 use lib.Dec.{eqb}
 use Rattle.hbc_bits.specs.Bits.{leAt}
 use Rattle.hbc_io.specs.Outcome.{limit}
 use Rattle.hbc_io.specs.Answer.{Answer, gives, refuses, refusedAt}
-use Rattle.hbc_io.specs.Lends.{below, choose}
+use Rattle.hbc_io.specs.Lends.{below}
 use Rattle.hbc_function_record.specs.declared.Layout.{Layout}
 use Rattle.hbc_function_record.specs.declared.Record.{Record}
-use Rattle.hbc_function_record.specs.Record.{sizeOf, largeOf, inlineOf, largeAt, flagsOf, overflowed, placeOf}
+use Rattle.hbc_function_record.specs.declared.Link.{Link}
+use Rattle.hbc_function_record.specs.declared.Link.the-variants as link
+use Rattle.hbc_function_record.specs.Record.{sizeOf, largeOf, inlineOf, largeAt, linkOf}
 use Rattle.hbc_function_record.specs.Row.{width, rowWords}
 use Rattle.hbc_function_header.specs.declared.Function.{Function}
 use Rattle.hbc_function_header.specs.declared.Function.the-variants as fun
@@ -36,13 +38,14 @@ headerAt layout start i = start + i * sizeOf layout
 
 -- ---- what a function is read from
 
--- its own n bytes and, if flagged, a large header at its packed place; nothing where those n bytes are not in the file
-unfoldable pub groundBy : List ℕ → ℕ → ℕ → Bool → ℕ → Ground
-groundBy s at n flag place = below (length s) (at + n) ground.None (choose flag (ground.Large at place) (ground.Inline at))
+-- its own bytes, from a place, and, if flagged, those of a large header at its packed place
+abbrev pub groundBy : ℕ → Link → Ground
+groundBy at link.Own = ground.Inline at
+groundBy at (link.Large place) = ground.Large at place
 
--- by the place of its header
+-- nothing where its own bytes are not in the file
 unfoldable pub groundOf : List ℕ → Layout → ℕ → Ground
-groundOf s layout at = let r = inlineOf layout 0 (leAt s at (sizeOf layout)) in groundBy s at (sizeOf layout) (overflowed (flagsOf r)) (placeOf r)
+groundOf s layout at = below (length s) (at + sizeOf layout) ground.None (groundBy at (linkOf (inlineOf layout 0 (leAt s at (sizeOf layout)))))
 
 -- function i of the table at start
 unfoldable pub groundAt : List ℕ → Layout → ℕ → ℕ → Ground

@@ -11,12 +11,12 @@ use crate::Ground;
 use crate::Reading;
 use crate::Where;
 use hbc_function_record::Layout;
+use hbc_function_record::Link;
+use hbc_function_record::header_link;
 use hbc_function_record::header_size;
 use hbc_function_record::inline_record;
-use hbc_function_record::large_place;
 use hbc_function_record::large_record;
 use hbc_function_record::large_size;
-use hbc_function_record::overflows;
 use hbc_function_record::row_words;
 use hbc_io::refuse;
 use hbc_rows::put_row;
@@ -28,11 +28,10 @@ pub(crate) fn ground_of(s: &[u8], layout: Layout, at: usize) -> Ground
     if s.len() < at + header_size(layout) {
         return Ground::None;
     }
-    let r = inline_record(s, layout, at, 0);
-    if overflows(r) {
-        return Ground::Large(at, large_place(r));
+    match header_link(s, layout, at) {
+        Link::Own => Ground::Inline(at),
+        Link::Large(place) => Ground::Large(at, place),
     }
-    Ground::Inline(at)
 }
 
 // Where the record is, by what the function is read from and the bytes of a large header.
@@ -88,11 +87,15 @@ pub(crate) fn row(s: &[u8], layout: Layout, at: usize, id: u32, row: &mut [u32])
     requires { ⌜ length (now row) ≡ width ⌝ }
     ensures { λ _. ⌜ now (row .exit) ≡ rowOf (recordAt (now (s .entry)) layout at id) (now (row .entry)) ⌝ }
 {
-    match read(s, layout, at, id) {
-        Function::Read(r) => {
-            let words = row_words(r);
+    match where_at(s, layout, at) {
+        Where::Inline => {
+            let words = row_words(inline_record(s, layout, at, id));
             put_row(row, 0, &words);
         }
-        Function::Refused(_) => {}
+        Where::Large(place) => {
+            let words = row_words(large_record(s, layout, place, id));
+            put_row(row, 0, &words);
+        }
+        Where::Refused(_) => {}
     }
 }

@@ -1,15 +1,15 @@
 -- The cases of Record's definitions, each from plain facts on numbers.
 use Prim.Native.Nat.{ℕ, _+_, _*_, _^_, _≤_, _<_}
-use mathlib.Core.Path.{_≡_, sym, ap, _∙_}
+use mathlib.Core.Path.{_≡_, refl, sym, ap, _∙_}
 use mathlib.Core.List.{List}
 use mathlib.Core.Bool.{Bool, true, false, not}
 use native.Mathlib.Omega.{arith}
 use lib.ListN.{length}
 use borrow.Author.Tests.{le-ltb, lt-ltb, le-leb, lt-leb, leb-true, leb-false, not-true, not-false}
-use Rattle.hbc_bits.specs.Bits.{leAt}
+use Rattle.hbc_bits.specs.Bits.{leAt, field}
 use Rattle.hbc_bits.proofs.Laws.{le-add}
 use Rattle.hbc_io.specs.Outcome.{limit}
-use Rattle.hbc_io.specs.Lends.{below}
+use Rattle.hbc_io.specs.Lends.{below, choose}
 use Rattle.hbc_io.specs.Plain.{wordAt}
 use Rattle.hbc_io.proofs.Plains.{word-there, word-none}
 use Rattle.hbc_function_record.specs.declared.Layout.{Layout}
@@ -17,13 +17,22 @@ use Rattle.hbc_function_record.specs.declared.Layout.the-variants as lay
 use Rattle.hbc_function_record.specs.declared.Legacy.{Legacy}
 use Rattle.hbc_function_record.specs.declared.Modern.{Modern}
 use Rattle.hbc_function_record.specs.declared.Record.the-variants as rec
-use Rattle.hbc_function_record.specs.Record.{sizeOf, largeOf, legacyOf, modernOf, legacyLarge, modernLarge, inlineOf, largeAt, largeIn}
+use Rattle.hbc_function_record.specs.declared.Link.{Link}
+use Rattle.hbc_function_record.specs.declared.Link.the-variants as link
+use Rattle.hbc_function_record.specs.Record.{sizeOf, largeOf, legacyOf, modernOf, legacyLarge, modernLarge, inlineOf, largeAt, largeIn, flagsOf, overflowed, legacyPlace, modernPlace, placeOf, linkOf}
 use Rattle.hbc_function_record.specs.Private.{isThere}
 
 -- two words of a header as one number
-pub joined : (s : List ℕ) (at n : ℕ) {lo hi : ℕ} → at + 8 + n ≤ length s → lo ≡ wordAt 8 s at → hi ≡ wordAt n s (at + 8) → lo + 2 ^ 64 * hi ≡ leAt s at (8 + n)
-joined s at n h p q =
-    rw (p, q, word-there 8 s at (omega arith), word-there n s (at + 8) h) (sym (le-add s at 8 n (omega arith)))
+pub joined : (s : List ℕ) (at n : ℕ) {lo hi : ℕ} → at + 8 + n ≤ length s → lo ≡ leAt s at 8 → hi ≡ leAt s (at + 8) n → lo + 2 ^ 64 * hi ≡ leAt s at (8 + n)
+joined s at n h p q = rw (p, q) (sym (le-add s at 8 n (omega arith)))
+
+-- and two halves of a word
+pub halved : (s : List ℕ) (at : ℕ) {lo hi : ℕ} → at + 8 ≤ length s → lo ≡ wordAt 4 s at → hi ≡ wordAt 4 s (at + 4) → lo + hi * 2 ^ 32 ≡ leAt s at 8
+halved s at h p q =
+    let a = p ∙ word-there 4 s at (omega arith) in
+    let b = q ∙ word-there 4 s (at + 4) (omega arith) in
+    let e = le-add s at 4 4 (omega arith) in
+    omega (arith, a, b, e)
 
 -- ---- whether the bytes are there
 
@@ -92,3 +101,37 @@ module _ (s : List ℕ) (layout : Layout) (at i : ℕ) where
   pub large-there : length s ≤ limit → at + largeOf layout ≤ length s → largeAt s layout at i ≡ largeIn s layout at i
   unfolding largeIn below
   large-there h k = sym (rw (le-ltb limit (length s) h, le-ltb (length s) (at + largeOf layout) k))
+
+-- ---- what a header is flagged for
+
+module _ {q : Legacy} {n m : ℕ} (e : q ≡ legacyOf 0 n) (f : n ≡ m) where
+  pub legacy-alone : overflowed (q .flags) ≡ false → link.Own ≡ linkOf (inlineOf lay.Legacy16 0 m)
+  unfolding linkOf choose inlineOf flagsOf
+  legacy-alone o = rw (← f, ← e, o)
+
+  pub legacy-linked : {p : ℕ} → overflowed (q .flags) ≡ true → p ≡ legacyPlace q → link.Large p ≡ linkOf (inlineOf lay.Legacy16 0 m)
+  unfolding linkOf choose inlineOf flagsOf placeOf
+  legacy-linked o g = rw (← f, ← e, o, g)
+
+module _ {q : Modern} {n m : ℕ} (e : q ≡ modernOf 0 n) (f : n ≡ m) where
+  pub modern-alone : overflowed (q .flags) ≡ false → link.Own ≡ linkOf (inlineOf lay.Modern12 0 m)
+  unfolding linkOf choose inlineOf flagsOf
+  modern-alone o = rw (← f, ← e, o)
+
+  pub modern-linked : {p : ℕ} → overflowed (q .flags) ≡ true → p ≡ modernPlace q → link.Large p ≡ linkOf (inlineOf lay.Modern12 0 m)
+  unfolding linkOf choose inlineOf flagsOf placeOf
+  modern-linked o g = rw (← f, ← e, o, g)
+
+-- a header of zeros is not flagged
+link-zeros : (layout : Layout) → link.Own ≡ linkOf (inlineOf layout 0 0)
+unfolding linkOf choose inlineOf legacyOf modernOf flagsOf overflowed field
+link-zeros lay.Legacy16 = refl
+link-zeros lay.Modern12 = refl
+
+module _ (s : List ℕ) (layout : Layout) (at : ℕ) where
+  pub link-none : length s < at + sizeOf layout → link.Own ≡ linkOf (inlineOf layout 0 (wordAt (sizeOf layout) s at))
+  link-none h = link-zeros layout ∙ ap linkOf (inline-none s layout at 0 (sizeOf layout) h)
+
+  pub link-there : {l : Link} {own : Layout} → l ≡ linkOf (inlineOf own 0 (leAt s at (sizeOf own))) → layout ≡ own → at + sizeOf own ≤ length s
+      → l ≡ linkOf (inlineOf layout 0 (wordAt (sizeOf layout) s at))
+  link-there {own = own} e f h = rw (f, word-there (sizeOf own) s at h) e

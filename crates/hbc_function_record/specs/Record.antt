@@ -7,13 +7,15 @@ use lib.Bits.{bitOr}
 use lib.Dec.{eqb}
 use Rattle.hbc_bits.specs.Bits.{leAt, field}
 use Rattle.hbc_io.specs.Outcome.{limit}
-use Rattle.hbc_io.specs.Lends.{below}
+use Rattle.hbc_io.specs.Lends.{below, choose}
 use Rattle.hbc_function_record.specs.declared.Layout.{Layout}
 use Rattle.hbc_function_record.specs.declared.Layout.the-variants as lay
 use Rattle.hbc_function_record.specs.declared.Legacy.{Legacy}
 use Rattle.hbc_function_record.specs.declared.Modern.{Modern}
 use Rattle.hbc_function_record.specs.declared.Record.{Record}
 use Rattle.hbc_function_record.specs.declared.Record.the-variants as rec
+use Rattle.hbc_function_record.specs.declared.Link.{Link}
+use Rattle.hbc_function_record.specs.declared.Link.the-variants as link
 
 -- the bytes of an inline header
 abbrev pub sizeOf : Layout → ℕ
@@ -115,7 +117,7 @@ largeAt s lay.Modern12 at i = rec.Modern (modernLarge s at i)
 unfoldable pub largeIn : List ℕ → Layout → ℕ → ℕ → Record
 largeIn s layout at i = below limit (length s) (inlineOf layout i 0) (below (length s) (at + largeOf layout) (inlineOf layout i 0) (largeAt s layout at i))
 
--- ---- which of the two it is
+-- ---- what a header is flagged for
 
 unfoldable pub flagsOf : Record → ℕ
 flagsOf (rec.Legacy r) = r .flags
@@ -136,3 +138,7 @@ modernPlace r = bitOr (r .name * 2 ^ 24) (r .offset % 2 ^ 24)
 unfoldable pub placeOf : Record → ℕ
 placeOf (rec.Legacy r) = legacyPlace r
 placeOf (rec.Modern r) = modernPlace r
+
+-- nothing but itself, or a large header at its packed place
+unfoldable pub linkOf : Record → Link
+linkOf r = choose (overflowed (flagsOf r)) (link.Large (placeOf r)) link.Own

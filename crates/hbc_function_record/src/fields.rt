@@ -5,15 +5,16 @@ ghost use lib.ListN.{length};
 ghost use Rattle.hbc_bits.specs.Bits.{leAt};
 ghost use Rattle.hbc_io.specs.Outcome.{limit};
 ghost use Rattle.hbc_function_record.specs.declared.Layout.the-variants.{Legacy16, Modern12};
-ghost use Rattle.hbc_function_record.specs.Record.{sizeOf, largeOf, legacyOf, modernOf, legacyLarge, modernLarge, legacyPlace, modernPlace};
+ghost use Rattle.hbc_function_record.specs.Record.{sizeOf, largeOf, legacyOf, modernOf, inlineOf, legacyLarge, modernLarge, overflowed, legacyPlace, modernPlace, linkOf};
 use crate::Layout;
 use crate::Legacy;
+use crate::Link;
 use crate::Modern;
 use crate::large_size;
 use crate::words::cut;
+use hbc_bits::bits;
 use hbc_io::u8_at;
 use hbc_io::u32_at;
-use hbc_io::u64_at;
 
 // The inline legacy record: the fields of lo + 2^64 * hi.
 pub(crate) fn legacy_inline(lo: u64, hi: u64, id: u32) -> Legacy
@@ -57,13 +58,21 @@ pub(crate) fn modern_inline(lo: u64, hi: u64, id: u32) -> Modern
     }
 }
 
+// The number of 8 bytes that are there, as two of 4: each of those is one load.
+fn u64_here(s: &[u8], at: usize) -> u64
+    requires { ⌜ at + 8 ≤ length (now s) ⌝ }
+    ensures { λ r. ⌜ r ≡ leAt (now (s .entry)) at 8 ⌝ }
+{
+    u32_at(s, at) as u64 + (u32_at(s, at + 4) as u64) * 0x1_0000_0000
+}
+
 // The record of the inline header at `at`.
 pub(crate) fn legacy_here(s: &[u8], at: usize, id: u32) -> Legacy
     requires { ⌜ at + sizeOf Legacy16 ≤ length (now s) ⌝ }
     ensures { λ r. ⌜ r ≡ legacyOf id (leAt (now (s .entry)) at (sizeOf Legacy16)) ⌝ }
 {
-    let lo = u64_at(s, at);
-    let hi = u64_at(s, at + 8);
+    let lo = u64_here(s, at);
+    let hi = u64_here(s, at + 8);
     legacy_inline(lo, hi, id)
 }
 
@@ -71,7 +80,7 @@ pub(crate) fn modern_here(s: &[u8], at: usize, id: u32) -> Modern
     requires { ⌜ at + sizeOf Modern12 ≤ length (now s) ⌝ }
     ensures { λ r. ⌜ r ≡ modernOf id (leAt (now (s .entry)) at (sizeOf Modern12)) ⌝ }
 {
-    let lo = u64_at(s, at);
+    let lo = u64_here(s, at);
     let hi = u32_at(s, at + 8) as u64;
     modern_inline(lo, hi, id)
 }
@@ -121,14 +130,48 @@ pub(crate) fn modern_large(s: &[u8], at: usize, id: u32) -> Modern
 }
 
 // Where a flagged header's large one is: the parts or-ed, for they overlap.
-pub(crate) fn legacy_place(r: Legacy) -> usize
+fn legacy_place(r: Legacy) -> usize
     ensures { λ p. ⌜ p ≡ legacyPlace r ⌝ }
 {
     (r.info_offset as usize) * 0x10000 | (r.offset as usize)
 }
 
-pub(crate) fn modern_place(r: Modern) -> usize
+fn modern_place(r: Modern) -> usize
     ensures { λ p. ⌜ p ≡ modernPlace r ⌝ }
 {
     (r.name as usize) * 0x100_0000 | (r.offset as usize) % 0x100_0000
+}
+
+// The overflow flag: bit 5.
+fn overflows(flags: u32) -> bool
+    ensures { λ r. ⌜ r ≡ overflowed flags ⌝ }
+{
+    bits(flags as u64, 5, 1) == 1
+}
+
+// What the inline header at `at` is flagged for.
+pub(crate) fn legacy_link(s: &[u8], at: usize) -> Link
+    requires { ⌜ at + sizeOf Legacy16 ≤ length (now s) ⌝ }
+    ensures { λ l. ⌜ l ≡ linkOf (inlineOf Legacy16 0 (leAt (now (s .entry)) at (sizeOf Legacy16))) ⌝ }
+{
+    let lo = u64_here(s, at);
+    let hi = u64_here(s, at + 8);
+    let r = legacy_inline(lo, hi, 0);
+    if overflows(r.flags) {
+        return Link::Large(legacy_place(r));
+    }
+    Link::Own
+}
+
+pub(crate) fn modern_link(s: &[u8], at: usize) -> Link
+    requires { ⌜ at + sizeOf Modern12 ≤ length (now s) ⌝ }
+    ensures { λ l. ⌜ l ≡ linkOf (inlineOf Modern12 0 (leAt (now (s .entry)) at (sizeOf Modern12))) ⌝ }
+{
+    let lo = u64_here(s, at);
+    let hi = u32_at(s, at + 8) as u64;
+    let r = modern_inline(lo, hi, 0);
+    if overflows(r.flags) {
+        return Link::Large(modern_place(r));
+    }
+    Link::Own
 }

@@ -2,20 +2,19 @@
 // Every call is total: a header whose bytes are not all there is read as one of zeros.
 ghost use mathlib.Core.Path.{_≡_};
 ghost use Rattle.hbc_io.specs.Plain.{wordAt};
-ghost use Rattle.hbc_function_record.specs.Record.{sizeOf, largeOf, inlineOf, largeIn, flagsOf, overflowed, placeOf};
+ghost use Rattle.hbc_function_record.specs.Record.{sizeOf, largeOf, inlineOf, largeIn, linkOf};
 ghost use Rattle.hbc_function_record.specs.Row.{rowWords};
 ghost use Rattle.hbc_function_record.specs.Private.{isThere};
 use crate::fields::legacy_here;
 use crate::fields::legacy_inline;
 use crate::fields::legacy_large;
-use crate::fields::legacy_place;
+use crate::fields::legacy_link;
 use crate::fields::modern_here;
 use crate::fields::modern_inline;
 use crate::fields::modern_large;
-use crate::fields::modern_place;
+use crate::fields::modern_link;
 use crate::row::legacy_words;
 use crate::row::modern_words;
-use hbc_bits::bits;
 use hbc_io::LIMIT;
 
 // The two forms of a function header, by the bytes that an inline one has.
@@ -61,6 +60,12 @@ pub struct Modern {
 pub enum Record {
     Legacy(Legacy),
     Modern(Modern),
+}
+
+// What a header is flagged for: nothing but itself, or a large one at a place.
+pub enum Link {
+    Own,
+    Large(usize),
 }
 
 mod fields;
@@ -160,29 +165,16 @@ pub fn large_record(s: &[u8], layout: Layout, at: usize, id: u32) -> Record
     }
 }
 
-fn flags_of(r: Record) -> u32
-    ensures { λ n. ⌜ n ≡ flagsOf r ⌝ }
+// What the inline header at `at` is flagged for; nothing where its bytes are not all there. No more of the record is made than that.
+pub fn header_link(s: &[u8], layout: Layout, at: usize) -> Link
+    ensures { λ l. ⌜ l ≡ linkOf (inlineOf layout 0 (wordAt (sizeOf layout) (now (s .entry)) at)) ⌝ }
 {
-    match r {
-        Record::Legacy(l) => l.flags,
-        Record::Modern(m) => m.flags,
+    if !there(s, at, header_size(layout)) {
+        return Link::Own;
     }
-}
-
-// Whether a header is flagged for a large one: bit 5.
-pub fn overflows(r: Record) -> bool
-    ensures { λ b. ⌜ b ≡ overflowed (flagsOf r) ⌝ }
-{
-    bits(flags_of(r) as u64, 5, 1) == 1
-}
-
-// Where a flagged header's large one is.
-pub fn large_place(r: Record) -> usize
-    ensures { λ p. ⌜ p ≡ placeOf r ⌝ }
-{
-    match r {
-        Record::Legacy(l) => legacy_place(l),
-        Record::Modern(m) => modern_place(m),
+    match layout {
+        Layout::Legacy16 => legacy_link(s, at),
+        Layout::Modern12 => modern_link(s, at),
     }
 }
 

@@ -1,15 +1,12 @@
 // The listing: its job, which is tagged fields, each a tag of one byte, a length of two, and so many bytes; and its lines, in show.rt.
 ghost use mathlib.Core.Path.{_≡_};
-ghost use Prim.Native.Nat.{_+_, _^_, _≤_};
-ghost use lib.ListN.{length};
-ghost use Rattle.hbc_bits.specs.Bits.{leAt};
+ghost use Prim.Native.Nat.{_^_, _<_};
 ghost use Rattle.hbc_job.specs.Job.{tagged, jobOf};
-use hbc_header::Layout;
-use hbc_io::Cursor;
+use hbc_function_record::Layout;
 use hbc_io::LIMIT;
-use hbc_io::ReadU8;
-use hbc_io::ReadU16;
-use hbc_io::ReadU32;
+use hbc_io::u8_at;
+use hbc_io::u16_at;
+use hbc_io::u32_at;
 
 // Where the file of a job starts: after three heads, 1 + 4 + 4 bytes, and its own head.
 pub const FILE: usize = 21;
@@ -27,38 +24,9 @@ pub enum Job {
 
 pub mod show;
 
-fn u8_at(s: &[u8], at: usize) -> u8
-    requires { ⌜ (at + 1 ≤ length (now s)) × (length (now s) ≤ 2 ^ 30) ⌝ }
-    ensures { λ r. ⌜ r ≡ leAt (now (s .entry)) at 1 ⌝ }
-{
-    match hbc_io::read_u8(s, Cursor { at }) {
-        ReadU8::Got(v, _) => v,
-        ReadU8::Refused(_, _) => 0,
-    }
-}
-
-fn u16_at(s: &[u8], at: usize) -> u16
-    requires { ⌜ (at + 2 ≤ length (now s)) × (length (now s) ≤ 2 ^ 30) ⌝ }
-    ensures { λ r. ⌜ r ≡ leAt (now (s .entry)) at 2 ⌝ }
-{
-    match hbc_io::read_u16(s, Cursor { at }) {
-        ReadU16::Got(v, _) => v,
-        ReadU16::Refused(_, _) => 0,
-    }
-}
-
-fn u32_at(s: &[u8], at: usize) -> u32
-    requires { ⌜ (at + 4 ≤ length (now s)) × (length (now s) ≤ 2 ^ 30) ⌝ }
-    ensures { λ r. ⌜ r ≡ leAt (now (s .entry)) at 4 ⌝ }
-{
-    match hbc_io::read_u32(s, Cursor { at }) {
-        ReadU32::Got(v, _) => v,
-        ReadU32::Refused(_, _) => 0,
-    }
-}
-
+// Whether the field at a place has this tag and so many bytes.
 fn is_tagged(s: &[u8], at: usize, tag: u8, len: usize) -> bool
-    requires { ⌜ (at + 3 ≤ length (now s)) × (length (now s) ≤ 2 ^ 30) ⌝ }
+    requires { ⌜ at < 2 ^ 63 ⌝ }
     ensures { λ r. ⌜ r ≡ tagged (now (s .entry)) at tag len ⌝ }
 {
     if u8_at(s, at) == tag {
@@ -67,6 +35,7 @@ fn is_tagged(s: &[u8], at: usize, tag: u8, len: usize) -> bool
     false
 }
 
+// The job that s holds.
 pub fn parse_job(s: &[u8]) -> Job
     ensures { λ r. ⌜ r ≡ jobOf (now (s .entry)) ⌝ }
 {

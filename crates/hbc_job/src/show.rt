@@ -5,11 +5,21 @@ use crate::FILE;
 use crate::Job;
 use crate::Parts;
 use crate::parse_job;
-use hbc_header::Layout;
-use hbc_header::Reading;
-use hbc_header::WIDTH;
+use hbc_function_header::Reading;
+use hbc_function_record::Layout;
+use hbc_function_record::ROW_FLAGS;
+use hbc_function_record::ROW_FRAME_SIZE;
+use hbc_function_record::ROW_INFO_OFFSET;
+use hbc_function_record::ROW_NAME;
+use hbc_function_record::ROW_OFFSET;
+use hbc_function_record::ROW_SIZE;
+use hbc_function_record::WIDTH;
 use hbc_io::Refusal;
+use hbc_rows::word_of;
 use libc::STDOUT_FILENO;
+
+// How many functions are listed at most.
+const LISTED: usize = 512;
 
 fn refused(r: Refusal) {
     io::write_all(STDOUT_FILENO, b"refused ");
@@ -32,29 +42,20 @@ fn heading(layout: Layout, count: u32) {
     io::write_all(STDOUT_FILENO, b"\n");
 }
 
-fn wide(x: u32) -> u64 {
-    x as u64
-}
-
-// A word of the table, 0 past its end.
-fn word(rows: &[u32], at: usize) -> u64 {
-    if at < rows.len() { wide(rows[at]) } else { 0 }
-}
-
-fn field(name: &[u8], value: u64) {
+fn field(name: &[u8], value: u32) {
     io::write_all(STDOUT_FILENO, name);
-    io::print_decimal(STDOUT_FILENO, value);
+    io::print_decimal(STDOUT_FILENO, value as u64);
 }
 
 fn row(rows: &[u32], id: u32) {
     let at = (id as usize) * WIDTH;
     io::print_decimal(STDOUT_FILENO, id as u64);
-    field(b" offset ", word(rows, at + 2));
-    field(b" size ", word(rows, at + 4));
-    field(b" name ", word(rows, at + 5));
-    field(b" info ", word(rows, at + 6));
-    field(b" frame ", word(rows, at + 7));
-    field(b" flags ", word(rows, at + 8));
+    field(b" offset ", word_of(rows, at + ROW_OFFSET));
+    field(b" size ", word_of(rows, at + ROW_SIZE));
+    field(b" name ", word_of(rows, at + ROW_NAME));
+    field(b" info ", word_of(rows, at + ROW_INFO_OFFSET));
+    field(b" frame ", word_of(rows, at + ROW_FRAME_SIZE));
+    field(b" flags ", word_of(rows, at + ROW_FLAGS));
     io::write_all(STDOUT_FILENO, b"\n");
 }
 
@@ -69,7 +70,7 @@ fn rows_of(rows: &[u32], count: u32) {
 fn list_file(file: &[u8], job: Parts) {
     let layout = job.layout;
     let count = job.count;
-    let mut rows = [0u32; 8192];
+    let mut rows = [0u32; LISTED * WIDTH];
     match hbc_function::read_functions(file, layout, job.start as usize, count, &mut rows) {
         Reading::Read => {
             heading(layout, count);
@@ -79,7 +80,7 @@ fn list_file(file: &[u8], job: Parts) {
     }
 }
 
-// Lists a job's functions, at most 512 of them, and answers the job as it was read.
+// Lists a job's functions, at most LISTED of them, and answers the job as it was read.
 pub fn list(s: &[u8]) -> Job
     ensures { λ r. ⌜ r ≡ jobOf (now (s .entry)) ⌝ }
 {

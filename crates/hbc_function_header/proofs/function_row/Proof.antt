@@ -1,10 +1,5 @@
-use denote.Ref.{now}
-use mathlib.Core.Path.{ap, _∙_}
 use native.Mathlib.Omega.{arith}
-use Rattle.hbc_io.specs.Answer.{Answer}
-use Rattle.hbc_function_record.specs.declared.Record.{Record}
-use Rattle.hbc_function_header.specs.Header.{rowOf}
-use Rattle.hbc_function_header.proofs.Headers.{is-function, into-none, into-refused, into-row, read-long, read-past, read-at}
+use Rattle.hbc_function_header.proofs.Headers.{into-none, into-refused, read-long, read-past, row-into}
 use borrow.Author.Needs.{needs}
 use Rattle.hbc_function_header.proofs.function_row.Statement.{statement}
 use Rattle.hbc_function_header.proofs.function_row.Tie as tie
@@ -28,7 +23,7 @@ same-length : tie.Need-same-length
 same-length c = search needs
 
 returns-4 : tie.Need-returns-4
-returns-4 c = let before = now (c .before .before .before .before .before .before .before .before .before .before .args .row) in c .before .before .row .ensures ∙ ap (λ (a : Answer Record). rowOf a before) (is-function _ _ _ _ (c .before .before .before .before .header-at .ensures .0) ∙ read-at _ _ _ _ (omega arith) (omega arith)) ∙ into-row _ before (omega arith)
+returns-4 c = row-into _ _ _ _ _ (c .before .before .row .ensures) (c .before .before .before .before .header-at .ensures .0) (omega arith) (omega arith) (omega arith)
 
 pub function-row-spec : {M : Type 1} → statement M
 function-row-spec =

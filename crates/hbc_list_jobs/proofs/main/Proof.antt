@@ -3,6 +3,7 @@ use borrow.Author.Needs.{needs}
 use Rattle.hbc_list_jobs.proofs.main.Statement.{statement}
 use Rattle.hbc_list_jobs.proofs.main.Tie as tie
 
+-- the cases before `at` were run, of the n bytes that were read
 abbrev Inv-loop : tie.InvT-loop
 Inv-loop buf n at₀ at = n ≤ 120000
 

@@ -1,6 +1,5 @@
-use mathlib.Core.Path.{sym, _∙_}
 use native.Mathlib.Omega.{arith}
-use Rattle.hbc_function_header.proofs.Headers.{size-small, ground-cut, ground-own, ground-large}
+use Rattle.hbc_function_header.proofs.Headers.{size-small, ground-cut, ground-by}
 use borrow.Author.Needs.{needs}
 use Rattle.hbc_function_header.proofs.find.ground_of.Statement.{statement}
 use Rattle.hbc_function_header.proofs.find.ground_of.Tie as tie
@@ -14,20 +13,20 @@ add-if1 c = let h = size-small (c .before .before .args .layout) in search needs
 returns : tie.Need-returns
 returns c = ground-cut _ _ _ (omega arith)
 
-inline-record-requires : tie.Need-inline-record-requires
-inline-record-requires c κs = search needs
+header-link-requires : tie.Need-header-link-requires
+header-link-requires c κs = search needs
 
-overflows-requires : tie.Need-overflows-requires
-overflows-requires c κs = search needs
+enum-told : tie.Need-enum-told
+enum-told c = search needs
 
-large-place-requires : tie.Need-large-place-requires
-large-place-requires c κs = search needs
+enum-known-place : tie.Need-enum-known-place
+enum-known-place c = search needs
 
 returns-2 : tie.Need-returns-2
-returns-2 c = ground-large _ _ _ (c .before .before .before .inline-record .ensures) (omega arith) (sym (c .before .before .overflows .ensures) ∙ c .before .if2 .taken) (c .large-place .ensures)
+returns-2 c = ground-by _ _ _ (omega arith) (c .before .before .header-link .ensures) (c .enum-told .given .1)
 
 returns-3 : tie.Need-returns-3
-returns-3 c = ground-own _ _ _ (c .before .before .inline-record .ensures) (omega arith) (sym (c .before .overflows .ensures) ∙ c .if2 .left)
+returns-3 c = ground-by _ _ _ (omega arith) (c .before .before .before .header-link .ensures) (c .before .place .given .1)
 
 pub ground-of-spec : {M : Type 1} → statement M
 ground-of-spec =
@@ -36,8 +35,8 @@ ground-of-spec =
     header-size-requires
     add-if1
     returns
-    inline-record-requires
-    overflows-requires
-    large-place-requires
+    header-link-requires
+    enum-told
+    enum-known-place
     returns-2
     returns-3)

@@ -3,6 +3,7 @@ use borrow.Author.Needs.{needs}
 use Rattle.hbc_job.proofs.show.rows_of.Statement.{statement}
 use Rattle.hbc_job.proofs.show.rows_of.Tie as tie
 
+-- rows 0 to id - 1 were listed
 abbrev Inv-loop : tie.InvT-loop
 Inv-loop rows count id₀ id = id ≤ count
 
