@@ -1,4 +1,5 @@
-//! Tables that are lent to a call: filled with a pattern before it, so that every word can be seen to have stayed.
+//! Tables that are lent to a call: every word can be seen to have been written or to have stayed, also those behind the
+//! lent ones.
 
 /// A word of a lent table, and what it holds before the call.
 pub trait Word: Copy + Eq + std::fmt::Debug {
@@ -18,7 +19,39 @@ impl Word for u64 {
 }
 
 /// Words behind the lent ones, which no call may touch.
-const BEHIND: usize = 4;
+const BEHIND: usize = 16;
+
+/// These words, then as many more as are not written where `len` are lent, and those behind.
+pub fn lent<T: Word>(mut words: Vec<T>, len: usize) -> Vec<T> {
+    assert!(words.len() <= len);
+    words.extend((words.len()..len + BEHIND).map(T::before));
+    words
+}
+
+/// A copy of these words to be lent, and those behind.
+pub fn copied(words: &[u32]) -> Vec<u32> {
+    let mut copy = Vec::with_capacity(words.len() + BEHIND);
+    copy.extend(words);
+    lent(copy, words.len())
+}
+
+/// The first word that is not as it should be, named by its row.
+pub fn first_wrong<T: Word>(given: &[T], right: Option<&[T]>, row: usize) -> String {
+    let wrong = right.and_then(|right| given.iter().zip(right).position(|(a, b)| a != b));
+    let (Some(i), Some(right)) = (wrong, right) else {
+        return String::new();
+    };
+    let behind = if i < given.len() - BEHIND {
+        ""
+    } else {
+        ", not lent,"
+    };
+    let (row, word) = (i / row, i % row);
+    format!(
+        "; row {row} word {word}{behind} is {:?}, not {:?}",
+        given[i], right[i]
+    )
+}
 
 /// A table of so many words, and a few more behind its end that are not lent.
 pub struct Lent<T> {

@@ -6,6 +6,8 @@ use std::process::ExitCode;
 #[cfg(published)]
 mod buffer;
 #[cfg(published)]
+mod case;
+#[cfg(published)]
 mod debug;
 #[cfg(published)]
 mod differences;
@@ -13,6 +15,8 @@ mod differences;
 mod function;
 #[cfg(published)]
 mod hostile;
+#[cfg(published)]
+mod inputs;
 #[cfg(published)]
 mod io;
 #[cfg(published)]
@@ -38,47 +42,41 @@ mod words;
 fn main() -> ExitCode {
     use run::Layer;
     run::main(&[
-        Layer {
-            name: "io",
-            compare: io::compare,
-            hostile: io::hostile::soak,
-            record: Some(io::record::write),
-            replay: io::replay,
-        },
+        io::LAYER,
         Layer {
             name: "table",
             compare: table::compare,
             hostile: table::hostile::soak,
-            record: Some(table::record::write),
-            replay: table::replay,
+            record: table::record::write,
+            replay: |words| table::replay(words.0.as_slice()),
         },
         Layer {
             name: "buffer",
             compare: buffer::compare,
             hostile: buffer::hostile::soak,
-            record: Some(buffer::record::write),
-            replay: buffer::replay,
+            record: buffer::record::write,
+            replay: |words| buffer::replay(words.0.as_slice()),
         },
         Layer {
             name: "function",
             compare: function::compare,
             hostile: function::hostile::soak,
-            record: Some(function::record::write),
-            replay: function::replay,
+            record: function::record::write,
+            replay: |words| function::replay(words.0.as_slice()),
         },
         Layer {
             name: "parsing",
             compare: parsing::compare,
             hostile: parsing::hostile::soak,
-            record: Some(parsing::record::write),
-            replay: parsing::replay,
+            record: parsing::record::write,
+            replay: |words| parsing::replay(words.0.as_slice()),
         },
         Layer {
             name: "debug",
             compare: debug::compare,
             hostile: debug::hostile::soak,
-            record: Some(debug::record::write),
-            replay: debug::replay,
+            record: debug::record::write,
+            replay: |words| debug::replay(words.0.as_slice()),
         },
     ])
 }

@@ -11,7 +11,8 @@ use published::file::BytecodeFile;
 use published::format::{empty_header, FunctionHeader, FunctionHeaderLayout, LegacyFunctionHeader};
 use published::io::ByteReader;
 
-use crate::differences::{bounded, row, text, told, zeros, Compared, End, ABORT};
+use crate::case::Compared;
+use crate::differences::{bounded, row, text, told, zeros, End, ABORT};
 use crate::io::LIMIT;
 use crate::run::{Difference, Run};
 use crate::words::{code, lend};
@@ -77,34 +78,22 @@ fn handlers(run: &mut Run) -> Compared {
     // At 4 one handler 1, 2, 3 and at 8 one handler 2, 3, 4.
     let file = bytes(&[0, 1, 1, 2, 3, 4]);
     let twice = [function(0, 4), function(0, 8)];
-    row(
-        run,
-        "f: two functions of id 0",
-        (rust(&file, &twice), vec![[0, 2, 3, 4]]),
-        (ours(&file, &twice, 2), Ok(vec![0, 1, 2, 3, 1, 2, 3, 4])),
-    )?;
+    row(run, "f: two functions of id 0")
+        .rust(rust(&file, &twice), vec![[0, 2, 3, 4]])?
+        .ours(ours(&file, &twice, 2), Ok(vec![0, 1, 2, 3, 1, 2, 3, 4]))?;
     let numbered = [function(0, 4), function(1, 8)];
-    row(
-        run,
-        "f: the same, numbered as their rows",
-        (rust(&file, &numbered), vec![[0, 1, 2, 3], [1, 2, 3, 4]]),
-        (ours(&file, &numbered, 2), Ok(vec![0, 1, 2, 3, 1, 2, 3, 4])),
-    )?;
-    row(
-        run,
-        "count 1, no function lent",
-        (rust(&[], &[]), vec![]),
-        (ours(&[], &[], 1), Err((11, 0))),
-    )?;
+    row(run, "f: the same, numbered as their rows")
+        .rust(rust(&file, &numbered), vec![[0, 1, 2, 3], [1, 2, 3, 4]])?
+        .ours(ours(&file, &numbered, 2), Ok(vec![0, 1, 2, 3, 1, 2, 3, 4]))?;
+    row(run, "count 1, no function lent")
+        .rust(rust(&[], &[]), vec![])?
+        .ours(ours(&[], &[], 1), Err((11, 0)))?;
     let one = [function(0, 4)];
     let functions = FunctionRow::rows(&one[0].1);
     let short = read_handlers_into(&file, functions, 1, &mut []).map(drop);
-    row(
-        run,
-        "one handler, no rows",
-        (rust(&file, &one), vec![[0, 1, 2, 3]]),
-        (told(short), Err((4, 0))),
-    )
+    row(run, "one handler, no rows")
+        .rust(rust(&file, &one), vec![[0, 1, 2, 3]])?
+        .ours(told(short), Err((4, 0)))
 }
 
 /// The Rust's file of nothing but these sections.
@@ -164,22 +153,19 @@ fn sections(run: &mut Run) -> Compared {
     row(
         run,
         "no bytes, no counts: no sources, and no entries of storage and bytecode",
-        (names(trailing(&[], 0, none)), Ok(listed)),
-        (
-            parts(trailing_sections(&[], 0, none)),
-            Ok([zeros, zeros, zeros, None, zeros]),
-        ),
+    )
+    .rust(names(trailing(&[], 0, none)), Ok(listed))?
+    .ours(
+        parts(trailing_sections(&[], 0, none)),
+        Ok([zeros, zeros, zeros, None, zeros]),
     )?;
     let (given, rows) = in_c(20)?;
-    row(
-        run,
-        "the same in C: mark 1 says absent",
-        (
+    row(run, "the same in C: mark 1 says absent")
+        .rust(
             trailing(&[], 0, none).map(|file| file.sections.len()),
             Ok(4),
-        ),
-        ((given, &rows[12..16]), (code(Ok(5)), &[0, 0, 0, 1])),
-    )?;
+        )?
+        .ours((given, &rows[12..16]), (code(Ok(5)), &[0, 0, 0, 1]))?;
     let counts = SectionCounts { regexps: 1, ..none };
     let read = trailing(&[7; 8], 0, counts).map(|file| {
         let table = file.reg_exp_table.iter();
@@ -189,18 +175,12 @@ fn sections(run: &mut Run) -> Compared {
         let s = found.regexp_table;
         [s.start, s.size, s.entries]
     });
-    row(
-        run,
-        "one regexp: its entry is read there, found here",
-        (read, Ok(vec![(0x0707_0707, 0x0707_0707)])),
-        (told(found), Ok([0, 8, 1])),
-    )?;
-    row(
-        run,
-        "19 words lent",
-        (trailing(&[], 0, none).is_ok(), true),
-        (in_c(19)?, (code(Err((4, 0))), vec![7; 19])),
-    )
+    row(run, "one regexp: its entry is read there, found here")
+        .rust(read, Ok(vec![(0x0707_0707, 0x0707_0707)]))?
+        .ours(told(found), Ok([0, 8, 1]))?;
+    row(run, "19 words lent")
+        .rust(trailing(&[], 0, none).is_ok(), true)?
+        .ours(in_c(19)?, (code(Err((4, 0))), vec![7; 19]))
 }
 
 /// The zeros of finding g.
@@ -220,15 +200,15 @@ fn memory(run: &mut Run) -> Compared {
     row(
         run,
         "g: 2^32 - 1 regexps in 256 MiB of zeros, address space of 2 GB",
-        (replayed("Rust"), End::Signal(ABORT, failed)),
-        (replayed("ours"), End::Said("Err((3, 0))".into())),
     )
+    .rust(replayed("Rust"), End::Signal(ABORT, failed))?
+    .ours(replayed("ours"), End::Said("Err((3, 0))".into()))
 }
 
 /// `SIDE BYTES`: 2^32 - 1 regexps in so many zeros by one side, whose memory may be bounded.
 pub fn replay(words: &[String]) -> Result<String, String> {
     zeros(
-        words,
+        &mut crate::case::Words(words.iter()),
         |file| format!("{:?}", names(trailing(file, 0, MOST))),
         |file| format!("{:?}", parts(trailing_sections(file, 0, MOST))),
     )
@@ -240,12 +220,9 @@ fn longer(run: &mut Run) -> Compared {
     let mut long = vec![0; LIMIT + 1];
     long[4] = 1;
     let one = [function(0, 4)];
-    row(
-        run,
-        "j: one handler in 2^30 + 1 bytes",
-        (rust(&long, &one), vec![[0; HANDLER]]),
-        (ours(&long, &one, 1), Err((1, 0))),
-    )?;
+    row(run, "j: one handler in 2^30 + 1 bytes")
+        .rust(rust(&long, &one), vec![[0; HANDLER]])?
+        .ours(ours(&long, &one, 1), Err((1, 0)))?;
     if !run.full {
         return Ok(());
     }
@@ -257,10 +234,7 @@ fn longer(run: &mut Run) -> Compared {
         ("cjs_module_table", end, 0, Some(0)),
         ("bytecode", end, 1, None),
     ];
-    row(
-        run,
-        "j: sections from 2^30 of 2^30 + 1 bytes",
-        (names(trailing(&long, LIMIT, none)), Ok(listed)),
-        (parts(trailing_sections(&long, LIMIT, none)), Err((1, 0))),
-    )
+    row(run, "j: sections from 2^30 of 2^30 + 1 bytes")
+        .rust(names(trailing(&long, LIMIT, none)), Ok(listed))?
+        .ours(parts(trailing_sections(&long, LIMIT, none)), Err((1, 0)))
 }

@@ -8,7 +8,8 @@ use published::format::{empty_header, FunctionHeader, FunctionHeaderLayout};
 use published::io::ByteReader;
 
 use super::super::{row as words, Row, ROW};
-use crate::differences::{bounded, row, text, told, zeros, Compared, End, ABORT};
+use crate::case::Compared;
+use crate::differences::{bounded, row, text, told, zeros, End, ABORT};
 use crate::io::LIMIT;
 use crate::lent::Reserved;
 use crate::run::{Difference, Run};
@@ -53,26 +54,17 @@ fn left(rows: usize) -> Vec<u32> {
 }
 
 fn lent(run: &mut Run) -> Compared {
-    row(
-        run,
-        "one header, no rows",
-        (legacy(&[0; 16], 1), Ok(vec![[0; ROW]])),
-        (ours(&[0; 16], 0, 1, 0), (Err((4, 0)), left(0))),
-    )?;
+    row(run, "one header, no rows")
+        .rust(legacy(&[0; 16], 1), Ok(vec![[0; ROW]]))?
+        .ours(ours(&[0; 16], 0, 1, 0), (Err((4, 0)), left(0)))?;
     let cut = "unexpected end of file: needed 16 bytes at offset 16 but only 0 remain";
-    row(
-        run,
-        "one header, count 2",
-        (legacy(&[0; 16], 2), Err(cut.into())),
-        (ours(&[0; 16], 0, 2, 2), (Err((3, 1)), left(2))),
-    )?;
+    row(run, "one header, count 2")
+        .rust(legacy(&[0; 16], 2), Err(cut.into()))?
+        .ours(ours(&[0; 16], 0, 2, 2), (Err((3, 1)), left(2)))?;
     let mut reader = ByteReader::new(&[]);
-    row(
-        run,
-        "start 1 in no bytes, count 0",
-        (text(reader.seek(1)), Err("seek out of range: 1 > 0".into())),
-        (ours(&[], 1, 0, 0), (Err((2, 0)), left(0))),
-    )
+    row(run, "start 1 in no bytes, count 0")
+        .rust(text(reader.seek(1)), Err("seek out of range: 1 > 0".into()))?
+        .ours(ours(&[], 1, 0, 0), (Err((2, 0)), left(0)))
 }
 
 /// A flagged legacy header: the byte of its flags, and the flag.
@@ -85,22 +77,16 @@ fn refused(run: &mut Run) -> Compared {
     file[FLAGS] = FLAGGED;
     let cut = "unexpected end of file: needed 4 bytes at offset 16 but only 0 remain";
     for count in [1, 2] {
-        row(
-            run,
-            "a fresh read: large header 0 cut, header 1 cut",
-            (legacy(&file, count), Err(cut.into())),
-            (ours(&file, 0, count, 2), (Err((3, 0)), left(2))),
-        )?;
+        row(run, "a fresh read: large header 0 cut, header 1 cut")
+            .rust(legacy(&file, count), Err(cut.into()))?
+            .ours(ours(&file, 0, count, 2), (Err((3, 0)), left(2)))?;
     }
     for span in [0..0, 0..16] {
         let mut rows = [FunctionRow::default(); 2];
         let again = refresh_functions(&file, Layout::Legacy16, 0, 2, span, &mut rows);
-        row(
-            run,
-            "a refresh: large header 0 cut, header 1 cut",
-            (legacy(&file, 2), Err(cut.into())),
-            (told(again), Err((3, 1))),
-        )?;
+        row(run, "a refresh: large header 0 cut, header 1 cut")
+            .rust(legacy(&file, 2), Err(cut.into()))?
+            .ours(told(again), Err((3, 1)))?;
     }
     // The packed place is 2^32: a number of 32 bits would be 0, where 31 bytes are.
     let mut file = [0; 31];
@@ -108,12 +94,12 @@ fn refused(run: &mut Run) -> Compared {
     row(
         run,
         "i: packed place 2^32, 31 bytes, on a machine of 64 bits",
-        (
-            legacy(&file, 1),
-            Err("seek out of range: 4294967296 > 31".into()),
-        ),
-        (ours(&file, 0, 1, 1), (Err((2, 0)), left(1))),
     )
+    .rust(
+        legacy(&file, 1),
+        Err("seek out of range: 4294967296 > 31".into()),
+    )?
+    .ours(ours(&file, 0, 1, 1), (Err((2, 0)), left(1)))
 }
 
 /// The zeros of finding g.
@@ -128,11 +114,11 @@ fn memory(run: &mut Run) -> Compared {
     row(
         run,
         "g: 2^32 - 1 functions of 64 MiB of zeros, address space of 2 GB",
-        (replayed("Rust"), End::Signal(ABORT, failed)),
-        (
-            replayed("ours"),
-            End::Said(format!("refused 4 at 0; refused 3 at {whole}")),
-        ),
+    )
+    .rust(replayed("Rust"), End::Signal(ABORT, failed))?
+    .ours(
+        replayed("ours"),
+        End::Said(format!("refused 4 at 0; refused 3 at {whole}")),
     )?;
     let Some(table) = Reserved::<u32>::new(u32::MAX as usize * ROW) else {
         return Ok(());
@@ -143,9 +129,9 @@ fn memory(run: &mut Run) -> Compared {
     row(
         run,
         "g: the same with all rows lent, and what the Rust clamps the count to",
-        (ByteReader::new(&file).capacity_hint(count as usize), ZEROS),
-        (given, code(Err((3, whole as u32)))),
     )
+    .rust(ByteReader::new(&file).capacity_hint(count as usize), ZEROS)?
+    .ours(given, code(Err((3, whole as u32))))
 }
 
 /// `Zeros SIDE BYTES`: 2^32 - 1 legacy functions of so many zeros by one side, whose memory may be bounded.
@@ -157,7 +143,7 @@ pub fn replay(words: &[String]) -> Option<Result<String, Difference>> {
     };
     (call == "Zeros").then(|| {
         zeros(
-            words,
+            &mut crate::case::Words(words.iter()),
             |file| format!("{:?}", legacy(file, u32::MAX).map(|rows| rows.len())),
             |file| {
                 let table = read_functions(file, Layout::Legacy16, 0, u32::MAX);
@@ -171,12 +157,9 @@ pub fn replay(words: &[String]) -> Option<Result<String, Difference>> {
 /// Finding j.
 fn longer(run: &mut Run) -> Compared {
     let long = vec![0; LIMIT + 1];
-    row(
-        run,
-        "j: one header of 2^30 + 1 bytes",
-        (legacy(&long, 1), Ok(vec![[0; ROW]])),
-        (ours(&long, 0, 1, 1), (Err((1, 0)), left(1))),
-    )?;
+    row(run, "j: one header of 2^30 + 1 bytes")
+        .rust(legacy(&long, 1), Ok(vec![[0; ROW]]))?
+        .ours(ours(&long, 0, 1, 1), (Err((1, 0)), left(1)))?;
     if !run.full {
         return Ok(());
     }
@@ -187,10 +170,7 @@ fn longer(run: &mut Run) -> Compared {
     let mut wrapped = [0; ROW];
     (wrapped[0], wrapped[6]) = (1, 36);
     let refusal = read_functions(&long, Layout::Modern12, 0, 1);
-    row(
-        run,
-        "j: a large header at 2^32 - 1",
-        (rust(&long, Layout::Modern12, 1), Ok(vec![wrapped])),
-        (told(refusal.map(drop)), Err((1, 0))),
-    )
+    row(run, "j: a large header at 2^32 - 1")
+        .rust(rust(&long, Layout::Modern12, 1), Ok(vec![wrapped]))?
+        .ours(told(refusal.map(drop)), Err((1, 0)))
 }

@@ -7,7 +7,8 @@ use published::file::parser::table::*;
 use published::io::ByteReader as Theirs;
 
 use super::bytes_of;
-use crate::differences::{row, text, told, Compared};
+use crate::case::Compared;
+use crate::differences::{row, text, told};
 use crate::io::LIMIT;
 use crate::run::Run;
 
@@ -61,32 +62,23 @@ fn cursors(run: &mut Run) -> Compared {
     let cut = "unexpected end of file: needed 4 bytes at offset 4 but only 0 remain";
     let input = [0; 4];
     for read in WORDS {
-        row(
-            run,
-            "a: two words of 4 bytes",
-            (rust(&input, read, 2), (Err(cut.into()), 4)),
-            (our_words(&input, 0, 2), (Err((3, 1)), 0, [7; 2])),
-        )?;
+        row(run, "a: two words of 4 bytes")
+            .rust(rust(&input, read, 2), (Err(cut.into()), 4))?
+            .ours(our_words(&input, 0, 2), (Err((3, 1)), 0, [7; 2]))?;
     }
     for read in PAIRS {
-        row(
-            run,
-            "a: one pair of 4 bytes",
-            (rust(&input, read, 1), (Err(cut.into()), 4)),
-            (our_pairs(&input, 0, 1), (Err((3, 0)), 0, [7; 2])),
-        )?;
+        row(run, "a: one pair of 4 bytes")
+            .rust(rust(&input, read, 1), (Err(cut.into()), 4))?
+            .ours(our_pairs(&input, 0, 1), (Err((3, 0)), 0, [7; 2]))?;
     }
     for answer in [our_words(&[], 1, 0), our_pairs(&[], 1, 0)] {
         let mut reader = Theirs::new(&[]);
-        row(
-            run,
-            "cursor 1 in no bytes, count 0",
-            (
+        row(run, "cursor 1 in no bytes, count 0")
+            .rust(
                 (text(reader.seek(1)), reader.position()),
                 (Err("seek out of range: 1 > 0".into()), 0),
-            ),
-            (answer, (Err((2, 0)), 1, [7; 2])),
-        )?;
+            )?
+            .ours(answer, (Err((2, 0)), 1, [7; 2]))?;
     }
     Ok(())
 }
@@ -123,12 +115,9 @@ fn strings(
     ours: Result<Vec<u32>, (u32, u32)>,
 ) -> Compared {
     let count = strings.small.len() as u32;
-    row(
-        run,
-        what,
-        (rust_strings(&strings, count), rust),
-        (our_strings(&strings, count), ours),
-    )
+    row(run, what)
+        .rust(rust_strings(&strings, count), rust)?
+        .ours(our_strings(&strings, count), ours)
 }
 
 const NONE: Strings = Strings {
@@ -202,19 +191,13 @@ fn counts(run: &mut Run) -> Compared {
         storage: &[0],
         ..NONE
     };
-    row(
-        run,
-        "count 2, one entry",
-        (rust_strings(&one, 2), Ok(vec![plain("")])),
-        (our_strings(&one, 2), Ok(vec![0; 4])),
-    )?;
+    row(run, "count 2, one entry")
+        .rust(rust_strings(&one, 2), Ok(vec![plain("")]))?
+        .ours(our_strings(&one, 2), Ok(vec![0; 4]))?;
     let rows: &mut [StringRow] = &mut [];
-    row(
-        run,
-        "one string, no rows",
-        (rust_strings(&one, 1), Ok(vec![plain("")])),
-        (told(one.decode_into(1, rows).map(drop)), Err((4, 0))),
-    )
+    row(run, "one string, no rows")
+        .rust(rust_strings(&one, 1), Ok(vec![plain("")]))?
+        .ours(told(one.decode_into(1, rows).map(drop)), Err((4, 0)))
 }
 
 /// Finding l: both sides alike. The fields of the long entries name each other's pair.
@@ -296,18 +279,12 @@ fn kinds(run: &mut Run) -> Compared {
 /// Finding j.
 fn longer(run: &mut Run) -> Compared {
     let long = vec![0; LIMIT + 1];
-    row(
-        run,
-        "j: one word of 2^30 + 1 bytes",
-        (rust(&long, WORDS[0], 1), (Ok(()), 4)),
-        (our_words(&long, 0, 1), (Err((1, 0)), 0, [7; 2])),
-    )?;
-    row(
-        run,
-        "j: one pair of 2^30 + 1 bytes",
-        (rust(&long, PAIRS[0], 1), (Ok(()), 8)),
-        (our_pairs(&long, 0, 1), (Err((1, 0)), 0, [7; 2])),
-    )?;
+    row(run, "j: one word of 2^30 + 1 bytes")
+        .rust(rust(&long, WORDS[0], 1), (Ok(()), 4))?
+        .ours(our_words(&long, 0, 1), (Err((1, 0)), 0, [7; 2]))?;
+    row(run, "j: one pair of 2^30 + 1 bytes")
+        .rust(rust(&long, PAIRS[0], 1), (Ok(()), 8))?
+        .ours(our_pairs(&long, 0, 1), (Err((1, 0)), 0, [7; 2]))?;
     strings(
         run,
         "j: one string of a storage of 2^30 + 1 bytes",
