@@ -145,6 +145,12 @@ impl Words<'_> {
             .ok_or("a word is missing".to_string())
     }
 
+    /// Whether the next word is this name, which is then taken.
+    pub fn called(&mut self, name: &str) -> bool {
+        let called = self.0.as_slice().first().is_some_and(|word| word == name);
+        called && self.0.next().is_some()
+    }
+
     pub fn number<T: FromStr>(&mut self) -> Result<T, String> {
         parsed(self.next()?)
     }

@@ -36,7 +36,7 @@ pub fn copied(words: &[u32]) -> Vec<u32> {
 }
 
 /// The first word that is not as it should be, named by its row.
-pub fn first_wrong<T: Word>(given: &[T], right: Option<&[T]>, row: usize) -> String {
+pub fn first_wrong<T: Word>(given: &[T], right: Option<&Vec<T>>, row: usize) -> String {
     let wrong = right.and_then(|right| given.iter().zip(right).position(|(a, b)| a != b));
     let (Some(i), Some(right)) = (wrong, right) else {
         return String::new();

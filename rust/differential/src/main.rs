@@ -57,13 +57,7 @@ fn main() -> ExitCode {
             record: buffer::record::write,
             replay: |words| buffer::replay(words.0.as_slice()),
         },
-        Layer {
-            name: "function",
-            compare: function::compare,
-            hostile: function::hostile::soak,
-            record: function::record::write,
-            replay: |words| function::replay(words.0.as_slice()),
-        },
+        function::LAYER,
         Layer {
             name: "parsing",
             compare: parsing::compare,

@@ -1,16 +1,14 @@
 //! The groups of inputs on which the two sides of the function tables are compared.
 
-pub mod differences;
-
+use bisquepond::sys::LIMIT;
 use harness::Random;
 
-use super::Op::*;
-use super::{fresh, Case, Layout, Op, LAYOUTS, OPS, ROW};
-use crate::io::LIMIT;
-use crate::run::{Difference, Run};
-use crate::words::{any_bytes as bytes, any_words as words};
-
-type Compared = Result<(), Difference>;
+use super::case::Op::*;
+use super::case::{fresh, Case, Layout, Op, LAYOUTS, OPS, ROW};
+use super::differences;
+use crate::case::{code, Compared, Refusal};
+use crate::inputs::{any_bytes as bytes, any_words as words};
+use crate::run::Run;
 
 pub fn compare(run: &mut Run) -> Compared {
     run.group("worked cases of document 01", worked)?;
@@ -108,24 +106,14 @@ impl Table {
     }
 }
 
-fn case(run: &mut Run, case: Case) -> Compared {
-    case.compare()?;
-    run.equal();
+/// Compares, and sees that both sides answer what document 01 prints: one row, which begins with these words, or a
+/// refusal, which leaves all as it was.
+fn says(run: &mut Run, case: Case, told: Result<&[u32], Refusal>) -> Compared {
+    let answer = run.compare(&case)?;
+    let first = told.unwrap_or(case.table);
+    assert_eq!(answer.code, code(told.map(|_| 1)));
+    assert_eq!(answer.table[..first.len()], *first);
     Ok(())
-}
-
-/// Compares, and sees that both sides answer what document 01 prints: the code, and the first row if it is written.
-fn says(run: &mut Run, case: Case, code: u64, row: Option<[u32; ROW]>) -> Compared {
-    let answer = case.compare()?;
-    let first = row.unwrap_or(case.table[..ROW].try_into().unwrap());
-    assert_eq!((answer.code, &answer.table[..ROW]), (code, &first[..]));
-    run.equal();
-    Ok(())
-}
-
-/// An answer that refuses.
-const fn refused(number: u64, place: u64) -> u64 {
-    number << 32 | place
 }
 
 fn worked(run: &mut Run) -> Compared {
@@ -138,11 +126,11 @@ fn worked(run: &mut Run) -> Compared {
         count: 1,
     };
     let p1 = [0, 0, 256, 2, 10, 3, 0, 5, 4, 1, 2, 3, 0, 0, 0, 0];
-    says(run, table.case(Read, &lent), 1, Some(p1))?;
+    says(run, table.case(Read, &lent), Ok(&p1))?;
     table.layout = Layout::Modern;
     table.file = vec![0, 1, 0, 0x44, 0x0A, 0xC0, 0, 0x29, 6, 7, 0x48, 4];
     let p2 = [1, 0, 256, 2, 10, 3, 0, 6, 4, 1, 4, 5, 7, 8, 1, 0];
-    says(run, table.case(Read, &lent), 1, Some(p2))?;
+    says(run, table.case(Read, &lent), Ok(&p2))?;
 
     // P3: a large header where the packed parts or-ed lead, another where their sum would.
     table.layout = Layout::Legacy;
@@ -152,7 +140,7 @@ fn worked(run: &mut Run) -> Compared {
     table.file[131_088] = 9;
     let mut p3 = [0; ROW];
     p3[2] = 7;
-    says(run, table.case(Read, &lent), 1, Some(p3))?;
+    says(run, table.case(Read, &lent), Ok(&p3))?;
 
     // P4: the same beyond 2^24, in the modern layout.
     table.layout = Layout::Modern;
@@ -161,7 +149,7 @@ fn worked(run: &mut Run) -> Compared {
     table.file[16_777_248] = 7;
     let mut p4 = [0; ROW];
     (p4[0], p4[2], p4[6]) = (1, 7, 16_777_248 + 40);
-    says(run, table.case(Read, &lent), 1, Some(p4))?;
+    says(run, table.case(Read, &lent), Ok(&p4))?;
 
     // P5: a large header that just fits, and one cut by a byte.
     for layout in LAYOUTS {
@@ -172,9 +160,9 @@ fn worked(run: &mut Run) -> Compared {
         let mut p5 = [0; ROW];
         p5[0] = layout as u32;
         p5[6] = 52 * layout as u32;
-        says(run, table.case(Read, &lent), 1, Some(p5))?;
+        says(run, table.case(Read, &lent), Ok(&p5))?;
         table.file.pop();
-        says(run, table.case(Read, &lent), refused(3, 0), None)?;
+        says(run, table.case(Read, &lent), Err((3, 0)))?;
     }
 
     // The large header of function 0 cut, and header 1 cut: a fresh read names the first, a refresh the second.
@@ -186,10 +174,10 @@ fn worked(run: &mut Run) -> Compared {
             count: 2,
         };
         table.point(&mut random, 0, 1);
-        says(run, table.case(Read, &lent), refused(3, 0), None)?;
+        says(run, table.case(Read, &lent), Err((3, 0)))?;
         let span = (0, table.file.len());
-        says(run, table.refresh(span, &lent), refused(3, 1), None)?;
-        says(run, table.refresh((0, 0), &lent), refused(3, 1), None)?;
+        says(run, table.refresh(span, &lent), Err((3, 1)))?;
+        says(run, table.refresh((0, 0), &lent), Err((3, 1)))?;
     }
     Ok(())
 }
@@ -215,8 +203,8 @@ fn bits(run: &mut Run) -> Compared {
                     }
                     table.file[from..][..size].fill(fill);
                     table.file[from + bit / 8] ^= 1 << (bit % 8);
-                    case(run, table.case(Read, &lent))?;
-                    case(run, table.case(One, &lent))?;
+                    run.compare(&table.case(Read, &lent))?;
+                    run.compare(&table.case(One, &lent))?;
                 }
             }
         }
@@ -228,7 +216,7 @@ fn bits(run: &mut Run) -> Compared {
                 let place = random.below(8) + own - 4;
                 table.point(&mut random, 0, place as u64);
             }
-            case(run, table.case(Read, &lent))?;
+            run.compare(&table.case(Read, &lent))?;
         }
     }
     Ok(())
@@ -251,7 +239,7 @@ fn flags(run: &mut Run) -> Compared {
             table.file[own - 1] = inline;
             for flags in 0..=255 {
                 table.file[own + large - 1] = flags;
-                case(run, table.case(Read, &lent))?;
+                run.compare(&table.case(Read, &lent))?;
             }
         }
     }
@@ -301,11 +289,11 @@ fn edges(run: &mut Run) -> Compared {
                         };
                         for op in OPS {
                             table.op = op;
-                            case(run, table)?;
+                            run.compare(&table)?;
                         }
                         table.op = random.pick(&OPS);
                         table.layout = random.pick(&[2, 3, 1 << 31, u32::MAX]);
-                        case(run, table)?;
+                        run.compare(&table)?;
                     }
                 }
             }
@@ -334,12 +322,12 @@ fn places(run: &mut Run) -> Compared {
                 table.header(0)[own - 1] &= !0x20;
                 table.point(&mut random, 1, place);
                 let lent = words(&mut random, 3 * ROW);
-                case(run, table.case(Read, &lent))?;
+                run.compare(&table.case(Read, &lent))?;
                 let alone = Case {
                     count: 1,
                     ..table.case(One, &lent)
                 };
-                case(run, alone)?;
+                run.compare(&alone)?;
                 // Spans that end before it, at its first byte, at its last and behind it; also past the file's end.
                 let place = place as usize;
                 for at in [
@@ -350,7 +338,7 @@ fn places(run: &mut Run) -> Compared {
                 ] {
                     for span in [(at, at), (at, at + 1), (at, at + 9), (0, at), (at + 1, at)] {
                         let (low, high) = span;
-                        case(run, table.refresh(span, &lent))?;
+                        run.compare(&table.refresh(span, &lent))?;
                         for count in [0, 1, 2] {
                             let meets = Case {
                                 op: Meets,
@@ -359,7 +347,7 @@ fn places(run: &mut Run) -> Compared {
                                 high,
                                 ..table.case(Meets, &[])
                             };
-                            case(run, meets)?;
+                            run.compare(&meets)?;
                         }
                     }
                 }
@@ -389,7 +377,7 @@ fn spans(run: &mut Run) -> Compared {
         let lent = words(&mut random, 3 * ROW + 1);
         for low in 0..=len + 1 {
             for high in 0..=len + 1 {
-                case(run, table.refresh((low, high), &lent))?;
+                run.compare(&table.refresh((low, high), &lent))?;
             }
         }
     }
@@ -492,11 +480,11 @@ fn edit(run: &mut Run, random: &mut Random) -> Compared {
     let rows = before.count as usize * ROW;
     let over = random.below(2 * ROW);
     let lent = words(random, rows + over);
-    case(run, after.refresh(span, &lent))?;
-    case(run, after.case(Read, &lent))?;
+    run.compare(&after.refresh(span, &lent))?;
+    run.compare(&after.case(Read, &lent))?;
     if before.count > 0 {
         let short = rows - 1 - random.below(ROW);
-        case(run, after.refresh(span, &lent[..short]))?;
+        run.compare(&after.refresh(span, &lent[..short]))?;
     }
     if let Ok(read) = fresh(&before.file, before.layout, before.start, before.count) {
         let mut table = read.concat();
@@ -511,7 +499,7 @@ fn edit(run: &mut Run, random: &mut Random) -> Compared {
                 count: id,
                 ..after.refresh(span, &lent)
             };
-            case(run, alone)?;
+            run.compare(&alone)?;
         }
     }
     Ok(())
@@ -541,49 +529,37 @@ fn longest(run: &mut Run) -> Compared {
                 table.point(&mut random, id, place as u64);
             }
             let lent = words(&mut random, 6 * ROW);
-            case(run, table.case(Read, &lent))?;
+            run.compare(&table.case(Read, &lent))?;
             for count in [0, table.count + 1] {
-                case(
-                    run,
-                    Case {
-                        count,
-                        ..table.case(Read, &lent)
-                    },
-                )?;
+                run.compare(&Case {
+                    count,
+                    ..table.case(Read, &lent)
+                })?;
             }
             for low in [0, 4, tail, table.start, LIMIT - 1, LIMIT, LIMIT + 1] {
                 for high in [0, 1, 6, table.start + 1, LIMIT - 1, LIMIT, LIMIT + 1] {
                     let refresh = table.refresh((low, high), &lent);
-                    case(run, refresh)?;
+                    run.compare(&refresh)?;
                     for count in 0..=table.count {
-                        case(
-                            run,
-                            Case {
-                                op: Meets,
-                                count,
-                                ..refresh
-                            },
-                        )?;
-                        case(
-                            run,
-                            Case {
-                                op: One,
-                                count,
-                                ..refresh
-                            },
-                        )?;
+                        run.compare(&Case {
+                            op: Meets,
+                            count,
+                            ..refresh
+                        })?;
+                        run.compare(&Case {
+                            op: One,
+                            count,
+                            ..refresh
+                        })?;
                     }
                 }
             }
             for start in [LIMIT - 1, LIMIT, LIMIT + 1] {
                 for op in OPS {
-                    case(
-                        run,
-                        Case {
-                            start,
-                            ..table.case(op, &lent)
-                        },
-                    )?;
+                    run.compare(&Case {
+                        start,
+                        ..table.case(op, &lent)
+                    })?;
                 }
             }
             file = table.file;
@@ -612,7 +588,7 @@ fn too_long(run: &mut Run) -> Compared {
                             count,
                             ..table.refresh(span, &lent)
                         };
-                        case(run, long)?;
+                        run.compare(&long)?;
                     }
                 }
             }
@@ -697,7 +673,7 @@ fn random(run: &mut Run) -> Compared {
                 high: number(&mut random),
                 ..table.case(op, &lent[..random.below(15 * ROW)])
             };
-            case(run, any)?;
+            run.compare(&any)?;
         }
     }
     Ok(())

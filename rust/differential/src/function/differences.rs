@@ -1,19 +1,17 @@
 //! The differences of the function tables.
 
 use bisquepond::function::{read_functions, read_functions_into, refresh_functions, FunctionRow};
-use bisquepond::sys::hbc_read_functions;
-use bisquepond::{Layout, Row as _};
-use published::file::parser::function::parse_function_headers;
-use published::format::{empty_header, FunctionHeader, FunctionHeaderLayout};
+use bisquepond::sys::{hbc_read_functions, LIMIT};
+use bisquepond::Layout::{Legacy16, Modern12};
+use bisquepond::Row as _;
+use published::format::FunctionHeader;
 use published::io::ByteReader;
 
-use super::super::{row as words, Row, ROW};
-use crate::case::Compared;
+use super::case::{parsed, Layout, Row, ROW};
+use crate::case::{code, said, Compared, Difference, Words};
 use crate::differences::{bounded, row, text, told, zeros, End, ABORT};
-use crate::io::LIMIT;
 use crate::lent::Reserved;
-use crate::run::{Difference, Run};
-use crate::words::code;
+use crate::run::Run;
 
 pub fn listed(run: &mut Run) -> Compared {
     lent(run)?;
@@ -23,18 +21,8 @@ pub fn listed(run: &mut Run) -> Compared {
 }
 
 /// The Rust's rows of a table that begins at byte 0.
-fn rust(file: &[u8], layout: Layout, count: u32) -> Result<Vec<Row>, String> {
-    let mut header = empty_header(match layout {
-        Layout::Legacy16 => FunctionHeaderLayout::Legacy16,
-        Layout::Modern12 => FunctionHeaderLayout::Modern12,
-    });
-    header.function_count = count;
-    let headers = text(parse_function_headers(&mut ByteReader::new(file), &header))?;
-    Ok(headers.iter().map(words).collect())
-}
-
 fn legacy(file: &[u8], count: u32) -> Result<Vec<Row>, String> {
-    rust(file, Layout::Legacy16, count)
+    text(parsed(file, Layout::Legacy, 0, count))
 }
 
 /// Our answer, and the rows lent, which held sevens.
@@ -43,7 +31,7 @@ type Answer = (Result<u32, (u32, u32)>, Vec<u32>);
 fn ours(file: &[u8], start: usize, count: u32, rows: usize) -> Answer {
     let mut lent = vec![7; rows * ROW];
     let table = FunctionRow::rows_mut(&mut lent);
-    let read = read_functions_into(file, Layout::Legacy16, start, count, table);
+    let read = read_functions_into(file, Legacy16, start, count, table);
     let answer = told(read.map(|rows| rows.len() as u32));
     (answer, lent)
 }
@@ -83,7 +71,7 @@ fn refused(run: &mut Run) -> Compared {
     }
     for span in [0..0, 0..16] {
         let mut rows = [FunctionRow::default(); 2];
-        let again = refresh_functions(&file, Layout::Legacy16, 0, 2, span, &mut rows);
+        let again = refresh_functions(&file, Legacy16, 0, 2, span, &mut rows);
         row(run, "a refresh: large header 0 cut, header 1 cut")
             .rust(legacy(&file, 2), Err(cut.into()))?
             .ours(told(again), Err((3, 1)))?;
@@ -135,22 +123,13 @@ fn memory(run: &mut Run) -> Compared {
 }
 
 /// `Zeros SIDE BYTES`: 2^32 - 1 legacy functions of so many zeros by one side, whose memory may be bounded.
-pub fn replay(words: &[String]) -> Option<Result<String, Difference>> {
-    let (call, words) = words.split_first()?;
-    let said = |answer: Result<u32, (u32, u32)>| match answer {
-        Ok(rows) => format!("accepted, {rows}"),
-        Err((number, place)) => format!("refused {number} at {place}"),
-    };
-    (call == "Zeros").then(|| {
-        zeros(
-            &mut crate::case::Words(words.iter()),
-            |file| format!("{:?}", legacy(file, u32::MAX).map(|rows| rows.len())),
-            |file| {
-                let table = read_functions(file, Layout::Legacy16, 0, u32::MAX);
-                let table = told(table.map(|table| table.len() as u32));
-                format!("{}; {}", said(ours(file, 0, u32::MAX, 0).0), said(table))
-            },
-        )
+pub fn replay(words: &mut Words) -> Result<String, Difference> {
+    let rust = |file: &[u8]| format!("{:?}", legacy(file, u32::MAX).map(|rows| rows.len()));
+    zeros(words, rust, |file| {
+        let table = read_functions(file, Legacy16, 0, u32::MAX);
+        let table = told(table.map(|table| table.len() as u32));
+        let both = [ours(file, 0, u32::MAX, 0).0, table].map(|answer| said(code(answer), "rows"));
+        both.join("; ")
     })
 }
 
@@ -169,8 +148,8 @@ fn longer(run: &mut Run) -> Compared {
     (long[5], long[6], long[11]) = (0xC0, 0x3F, FLAGGED);
     let mut wrapped = [0; ROW];
     (wrapped[0], wrapped[6]) = (1, 36);
-    let refusal = read_functions(&long, Layout::Modern12, 0, 1);
+    let refusal = read_functions(&long, Modern12, 0, 1);
     row(run, "j: a large header at 2^32 - 1")
-        .rust(rust(&long, Layout::Modern12, 1), Ok(vec![wrapped]))?
+        .rust(text(parsed(&long, Layout::Modern, 0, 1)), Ok(vec![wrapped]))?
         .ours(told(refusal.map(drop)), Err((1, 0)))
 }
