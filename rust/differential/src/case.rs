@@ -71,9 +71,9 @@ pub trait Compare {
         Ok(self.said(&answer, None))
     }
 
-    /// Compares what a call answered into tables that can't be written with a refusal that is known.
-    fn refused(&self, code: u64, refusal: Refusal) -> Result<String, Difference> {
-        let right = self::code(Err(refusal));
+    /// Compares an answer with one that was worked out beside, where the Rust would need too much memory.
+    fn told(&self, code: u64, right: Result<u32, Refusal>) -> Result<String, Difference> {
+        let right = self::code(right);
         match code == right {
             true => Ok(said(code, "")),
             false => Err(self.difference(&said(right, ""), &said(code, ""))),

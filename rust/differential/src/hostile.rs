@@ -87,6 +87,19 @@ impl Soak {
         Random::new(seeds.word() ^ group)
     }
 
+    /// One case on a file of so many bytes, one piece again and again.
+    pub fn filled(
+        &mut self,
+        name: &str,
+        (len, piece): (usize, &[u8]),
+        compare: impl FnOnce(&mut Vec<u8>) -> Result<String, Difference>,
+    ) -> Compared {
+        self.case(name, file_of(len), |file| {
+            fill(file, len, piece);
+            compare(file)
+        })
+    }
+
     /// One case: `compare` makes its input, in the file that is lent to it if it needs one, compares, and says what was
     /// answered.
     pub fn case(
@@ -166,5 +179,14 @@ impl Soak {
             self.grown >> 10,
             self.seed
         );
+    }
+}
+
+/// Sees that each row is as it was worked out beside.
+pub fn rows_are(rows: &[u32], width: usize, right: impl Fn(usize, &[u32]) -> bool) -> Compared {
+    let mut rows = rows.chunks_exact(width).enumerate();
+    match rows.find(|(i, row)| !right(*i, row)) {
+        None => Ok(()),
+        Some((i, row)) => Err(format!("row {i} is {row:?}").into()),
     }
 }

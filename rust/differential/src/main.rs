@@ -43,13 +43,7 @@ fn main() -> ExitCode {
     use run::Layer;
     run::main(&[
         io::LAYER,
-        Layer {
-            name: "table",
-            compare: table::compare,
-            hostile: table::hostile::soak,
-            record: table::record::write,
-            replay: |words| table::replay(words.0.as_slice()),
-        },
+        table::LAYER,
         Layer {
             name: "buffer",
             compare: buffer::compare,

@@ -6,8 +6,8 @@ use published::format::FLAG_OVERFLOWED;
 
 use super::case::{one, Case, Layout, Op, LAYOUTS, OPS, ROW};
 use super::groups::any_table;
-use crate::case::{said, Compare, Compared, Difference, Refusal};
-use crate::hostile::{file_of, size, Soak};
+use crate::case::{Compare, Compared, Difference, Refusal};
+use crate::hostile::{file_of, rows_are, size, Soak};
 use crate::inputs::{any_words, fill};
 use crate::lent::Reserved;
 
@@ -100,7 +100,7 @@ fn told(
 ) -> Result<String, Difference> {
     let table = Reserved::new(rows * ROW).expect("addresses for a table that is not written");
     let case = case(file, layout, op, count, &[]);
-    case.refused(case.make(table.as_mut_ptr(), table.len()), refusal)
+    case.told(case.make(table.as_mut_ptr(), table.len()), Err(refusal))
 }
 
 /// A call on a table at byte 0, with the whole file as span.
@@ -149,16 +149,11 @@ fn most(soak: &mut Soak, layout: Layout) -> Compared {
                 let mut table = vec![7; count * ROW];
                 let asked = case(file, layout, op, count as u32, &[]);
                 let code = asked.make(table.as_mut_ptr(), table.len());
-                let mut row = one(file, layout, 0, 0).expect("a large header at byte 0");
-                let wrong = table.chunks_exact(ROW).enumerate().find(|(i, given)| {
-                    row[1] = *i as u32;
-                    *given != row
-                });
-                let said = said(code, "rows");
-                match (code == count as u64, wrong) {
-                    (true, None) => Ok(said),
-                    _ => Err(format!("{said}, of {count}; first wrong row {wrong:?}").into()),
-                }
+                let row = one(file, layout, 0, 0).expect("a large header at byte 0");
+                rows_are(&table, ROW, |i, given| {
+                    given[1] == i as u32 && given[0] == row[0] && given[2..] == row[2..]
+                })?;
+                asked.told(code, Ok(count as u32))
             },
         )?;
     }

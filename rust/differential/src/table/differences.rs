@@ -1,15 +1,15 @@
 //! The differences of the string tables, and what both sides do that Hermes does not.
 
 use bisquepond::io::ByteReader as Ours;
+use bisquepond::sys::LIMIT;
 use bisquepond::table::{StringRow, Strings};
 use published::error::Result as Published;
 use published::file::parser::table::*;
 use published::io::ByteReader as Theirs;
 
-use super::bytes_of;
 use crate::case::Compared;
 use crate::differences::{row, text, told};
-use crate::io::LIMIT;
+use crate::inputs::bytes_of;
 use crate::run::Run;
 
 pub fn listed(run: &mut Run) -> Compared {
