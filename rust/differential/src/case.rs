@@ -111,6 +111,14 @@ pub fn said(code: u64, what: &str) -> String {
     }
 }
 
+/// The bits of a float. NaNs are one value: neither side promises which bits they have.
+pub fn float_bits(value: f64) -> u64 {
+    match value.is_nan() {
+        true => 0x7FF8_0000_0000_0000,
+        false => value.to_bits(),
+    }
+}
+
 /// Bytes that a difference still prints, words of a table that it still prints, and words lent that a replay still makes.
 const BYTES: usize = 4096;
 const WORDS: usize = 1024;

@@ -44,13 +44,7 @@ fn main() -> ExitCode {
     run::main(&[
         io::LAYER,
         table::LAYER,
-        Layer {
-            name: "buffer",
-            compare: buffer::compare,
-            hostile: buffer::hostile::soak,
-            record: buffer::record::write,
-            replay: |words| buffer::replay(words.0.as_slice()),
-        },
+        buffer::LAYER,
         function::LAYER,
         Layer {
             name: "parsing",

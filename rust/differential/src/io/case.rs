@@ -4,7 +4,8 @@ use bisquepond::sys::*;
 use published::error::{Error, Result as Published};
 use published::io::ByteReader;
 
-use crate::case::{bytes_word, printed, replayed, Compare, Difference, Words};
+use crate::case::{bytes_word, float_bits, printed, replayed};
+use crate::case::{Compare, Difference, Words};
 use crate::meter;
 
 /// The calls, in the order of their numbers in a recorded sample.
@@ -75,14 +76,6 @@ pub struct Answer {
 
 /// What the lent places hold before a call, so that a refused one can be seen to have left them.
 const LENT: u64 = 0xA5A5_A5A5_A5A5_A5A5;
-
-/// NaNs are one value: neither side promises which bits they have.
-pub fn float_bits(value: f64) -> u64 {
-    match value.is_nan() {
-        true => 0x7FF8_0000_0000_0000,
-        false => value.to_bits(),
-    }
-}
 
 /// What the published Rust answers from a cursor within the input, and the text of a string it read.
 pub fn rust(case: &Case) -> (Answer, Option<String>) {

@@ -2,16 +2,15 @@
 
 use bisquepond::io::ByteReader as Ours;
 use bisquepond::literal::{read_series_into, Literal};
+use bisquepond::sys::LIMIT;
 use published::file::parser::buffer::{literal, read_buffer_series};
-use published::file::parser::parsing;
-use published::file::structure::{LiteralValue, StringTableEntry};
+use published::file::structure::LiteralValue;
 use published::file::BytecodeFile;
-use published::format::{empty_header, FunctionHeaderLayout};
 use published::io::ByteReader as Theirs;
 
+use super::case::file_of;
 use crate::case::Compared;
 use crate::differences::{row, text, told};
-use crate::io::LIMIT;
 use crate::run::Run;
 
 pub fn listed(run: &mut Run) -> Compared {
@@ -24,15 +23,7 @@ pub fn listed(run: &mut Run) -> Compared {
 
 /// A file of nothing but these strings.
 fn file(texts: &[&str]) -> BytecodeFile {
-    let header = empty_header(FunctionHeaderLayout::Legacy16);
-    let mut file = parsing::trailing(&[], &mut Theirs::new(&[]), header).unwrap();
-    let entry = |text: &&str| StringTableEntry {
-        value: text.to_string(),
-        is_utf16: false,
-        is_identifier: false,
-    };
-    file.strings = texts.iter().map(entry).collect();
-    file
+    file_of(texts.iter().map(|text| text.to_string()))
 }
 
 /// The Rust's values, in a file of these strings.
