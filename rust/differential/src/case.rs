@@ -54,15 +54,24 @@ pub trait Compare {
     fn compare(&self) -> Result<Self::Answer, Difference> {
         let ours = self.ours();
         let (right, besides) = self.right(ours.as_ref().ok());
+        let ours = self.same(ours, &right)?;
+        let wrong = |wrong: String| self.difference(&self.said(&right, None), &wrong);
+        self.besides(&ours, besides).map_err(wrong)?;
+        Ok(ours)
+    }
+
+    /// Ours, if it is right.
+    fn same(
+        &self,
+        ours: Result<Self::Answer, String>,
+        right: &Self::Answer,
+    ) -> Result<Self::Answer, Difference> {
         let wrong = match ours {
-            Ok(ours) if ours == right => match self.besides(&ours, besides) {
-                Ok(()) => return Ok(ours),
-                Err(wrong) => wrong,
-            },
-            Ok(ours) => self.said(&ours, Some(&right)),
+            Ok(ours) if ours == *right => return Ok(ours),
+            Ok(ours) => self.said(&ours, Some(right)),
             Err(wrong) => wrong,
         };
-        Err(self.difference(&self.said(&right, None), &wrong))
+        Err(self.difference(&self.said(right, None), &wrong))
     }
 
     /// The same in words.

@@ -46,13 +46,7 @@ fn main() -> ExitCode {
         table::LAYER,
         buffer::LAYER,
         function::LAYER,
-        Layer {
-            name: "parsing",
-            compare: parsing::compare,
-            hostile: parsing::hostile::soak,
-            record: parsing::record::write,
-            replay: |words| parsing::replay(words.0.as_slice()),
-        },
+        parsing::LAYER,
         Layer {
             name: "debug",
             compare: debug::compare,

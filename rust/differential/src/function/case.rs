@@ -284,12 +284,11 @@ impl Case<'_> {
             place(given.code)
         });
         let code = case::code(answer);
-        let fresh = Answer { code, table };
-        if given != fresh {
-            let given = format!("as a fresh read: {}", self.said(&given, Some(&fresh)));
-            return Err(self.difference(&self.said(&fresh, None), &given));
-        }
-        Ok(given)
+        let same = self.same(Ok(given), &Answer { code, table });
+        same.map_err(|Difference(mut lines)| {
+            lines.push("expected  by a fresh read of the same file".to_string());
+            Difference(lines)
+        })
     }
 }
 

@@ -181,12 +181,7 @@ impl Case<'_> {
     /// Compares beside another buffer, which is not looked at.
     pub fn compare_beside(&self, other: &[u8]) -> Compared {
         let (right, ()) = self.right(None);
-        let wrong = match self.ours_beside(other) {
-            Ok(ours) if ours == right => return Ok(()),
-            Ok(ours) => self.said(&ours, Some(&right)),
-            Err(wrong) => wrong,
-        };
-        Err(self.difference(&self.said(&right, None), &wrong))
+        self.same(self.ours_beside(other), &right).map(drop)
     }
 
     /// Compares calls that must be refused, into tables that can't be written: as the Rust refuses them, or as was
