@@ -7,9 +7,8 @@ use std::time::Instant;
 use bisquepond::sys::LIMIT;
 use harness::{count, Random};
 
-pub use crate::case::Compared;
-use crate::case::Difference;
-pub use crate::inputs::{fill, mixed, ten};
+use crate::case::{Compared, Difference};
+use crate::inputs::fill;
 use crate::meter;
 
 /// What a case deals with, in bytes: those that a call reads and writes, and the memory that the comparison needs.

@@ -60,3 +60,34 @@ pub fn ten(number: u64) -> [u8; 10] {
         _ => (number >> (7 * i)) as u8 & 0x7F | 0x80,
     })
 }
+
+/// A signed number in as few bytes as it needs, or in exactly `len` bytes, of which those past the tenth only carry on.
+pub fn sleb(value: i64, len: usize) -> Vec<u8> {
+    let mut bytes = Vec::new();
+    let mut rest = value;
+    loop {
+        let byte = rest as u8 & 0x7F;
+        rest >>= 7;
+        let done = rest == 0 && byte & 0x40 == 0 || rest == -1 && byte & 0x40 != 0;
+        if bytes.len() + 1 >= len && done {
+            bytes.push(byte);
+            return bytes;
+        }
+        bytes.push(byte | 0x80);
+    }
+}
+
+/// A length in as few bytes as it needs, or in `len` bytes.
+pub fn uleb(value: u64, len: usize) -> Vec<u8> {
+    let mut bytes = Vec::new();
+    let mut rest = value;
+    loop {
+        let byte = rest as u8 & 0x7F;
+        rest >>= 7;
+        if bytes.len() + 1 >= len && rest == 0 {
+            bytes.push(byte);
+            return bytes;
+        }
+        bytes.push(byte | 0x80);
+    }
+}

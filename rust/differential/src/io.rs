@@ -15,14 +15,3 @@ pub const LAYER: Layer = Layer {
     record: record::write,
     replay: case::replay,
 };
-
-pub use bisquepond::sys::LIMIT;
-
-pub fn hex(bytes: &[u8]) -> String {
-    bytes.iter().map(|byte| format!("{byte:02x}")).collect()
-}
-
-pub fn unhex(word: &str) -> Result<Vec<u8>, String> {
-    let words = [word.to_string()];
-    crate::case::Words(words.iter()).bytes()
-}

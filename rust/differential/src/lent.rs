@@ -35,70 +35,24 @@ pub fn copied(words: &[u32]) -> Vec<u32> {
     lent(copy, words.len())
 }
 
-/// The first word that is not as it should be, named by its row.
-pub fn first_wrong<T: Word>(given: &[T], right: Option<&Vec<T>>, row: usize) -> String {
+/// The first word of a table that is not as it should be, by its row.
+pub fn first_wrong<T: Word>(
+    table: &str,
+    given: &[T],
+    right: Option<&Vec<T>>,
+    row: usize,
+) -> String {
     let wrong = right.and_then(|right| given.iter().zip(right).position(|(a, b)| a != b));
     let (Some(i), Some(right)) = (wrong, right) else {
         return String::new();
     };
-    let behind = if i < given.len() - BEHIND {
-        ""
-    } else {
-        ", not lent,"
-    };
+    let lent = i < given.len() - BEHIND;
+    let behind = if lent { "" } else { ", behind what is lent," };
     let (row, word) = (i / row, i % row);
     format!(
-        "; row {row} word {word}{behind} is {:?}, not {:?}",
+        "; {table} row {row} word {word}{behind} is {:?}, not {:?}",
         given[i], right[i]
     )
-}
-
-/// A table of so many words, and a few more behind its end that are not lent.
-pub struct Lent<T> {
-    words: Vec<T>,
-    len: usize,
-}
-
-impl<T: Word> Lent<T> {
-    pub fn new(len: usize) -> Self {
-        Lent {
-            words: (0..len + BEHIND).map(T::before).collect(),
-            len,
-        }
-    }
-
-    pub fn len(&self) -> usize {
-        self.len
-    }
-
-    pub fn as_mut_ptr(&mut self) -> *mut T {
-        self.words.as_mut_ptr()
-    }
-
-    pub fn words(&self) -> &[T] {
-        &self.words[..self.len]
-    }
-
-    /// Whether the table now begins with `written`, and all after it is as it was before; or the first word that isn't.
-    pub fn holds(&self, written: &[T]) -> Result<(), String> {
-        let (first, rest) = self.words.split_at(written.len());
-        let wrong = if first == written {
-            let from = written.len();
-            let stayed = |(i, word): (usize, &T)| *word == T::before(from + i);
-            match rest.iter().enumerate().position(|word| !stayed(word)) {
-                None => return Ok(()),
-                Some(i) => from + i,
-            }
-        } else {
-            (0..).find(|&i| first[i] != written[i]).unwrap()
-        };
-        let right = written.get(wrong).copied().unwrap_or(T::before(wrong));
-        let behind = if wrong < self.len { "" } else { ", not lent" };
-        Err(format!(
-            "word {wrong} of the table{behind} is {:?}, not {right:?}",
-            self.words[wrong]
-        ))
-    }
 }
 
 /// A table of so many words that it cannot be filled: addresses without memory, all zeros, that may be read alone. A

@@ -32,28 +32,17 @@ mod run;
 #[cfg(published)]
 mod search;
 #[cfg(published)]
-mod shown;
-#[cfg(published)]
 mod table;
-#[cfg(published)]
-mod words;
 
 #[cfg(published)]
 fn main() -> ExitCode {
-    use run::Layer;
     run::main(&[
         io::LAYER,
+        function::LAYER,
         table::LAYER,
         buffer::LAYER,
-        function::LAYER,
         parsing::LAYER,
-        Layer {
-            name: "debug",
-            compare: debug::compare,
-            hostile: debug::hostile::soak,
-            record: debug::record::write,
-            replay: |words| debug::replay(words.0.as_slice()),
-        },
+        debug::LAYER,
     ])
 }
 

@@ -6,8 +6,7 @@ use std::time::{Duration, Instant};
 
 use harness::{count, Random};
 
-pub use crate::case::Difference;
-use crate::case::{parsed, Compare, Compared, Words};
+use crate::case::{parsed, Compare, Compared, Difference, Words};
 use crate::hostile::Soak;
 
 const USAGE: &str = "usage: differential [--seconds N] [--seed S] [--full] [LAYER..]
@@ -130,9 +129,6 @@ fn bad_usage(why: impl Display) -> ExitCode {
     eprintln!("{why}\n{USAGE}");
     ExitCode::from(2)
 }
-
-/// Shims.
-pub use crate::case::parsed as number;
 
 pub fn main(layers: &[Layer]) -> ExitCode {
     let asked = match asked() {

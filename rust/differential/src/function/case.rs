@@ -316,7 +316,8 @@ impl Compare for Case<'_> {
 
     fn said(&self, answer: &Answer, right: Option<&Answer>) -> String {
         let what = if self.op == Meets { "" } else { "rows" };
-        said(answer.code, what) + &first_wrong(&answer.table, right.map(|right| &right.table), ROW)
+        said(answer.code, what)
+            + &first_wrong("table", &answer.table, right.map(|right| &right.table), ROW)
     }
 
     fn replay(&self) -> Option<String> {

@@ -235,11 +235,10 @@ impl Compare for Case<'_> {
     }
 
     fn said(&self, answer: &Answer, right: Option<&Answer>) -> String {
-        let kinds = first_wrong(&answer.kinds, right.map(|right| &right.kinds), 1);
-        let payloads = first_wrong(&answer.payloads, right.map(|right| &right.payloads), 1);
-        let tables = [("; kinds", kinds), ("; payloads", payloads)];
-        let wrong = tables.map(|(name, wrong)| wrong.replace(';', name));
-        said(answer.code, "bytes used") + &wrong.concat()
+        let (kinds, payloads) = (&answer.kinds, &answer.payloads);
+        said(answer.code, "bytes used")
+            + &first_wrong("kinds", kinds, right.map(|right| &right.kinds), 1)
+            + &first_wrong("payloads", payloads, right.map(|right| &right.payloads), 1)
     }
 
     fn replay(&self) -> Option<String> {

@@ -170,7 +170,7 @@ impl Compare for Case<'_> {
     }
 
     fn said(&self, answer: &Answer, right: Option<&Answer>) -> String {
-        let wrong = first_wrong(&answer.rows, right.map(|right| &right.rows), ROW);
+        let wrong = first_wrong("rows", &answer.rows, right.map(|right| &right.rows), ROW);
         said(answer.code, "rows") + &wrong
     }
 

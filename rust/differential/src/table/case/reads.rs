@@ -214,7 +214,7 @@ impl Compare for Case<'_> {
 
     fn said(&self, (answer, table): &Self::Answer, right: Option<&Self::Answer>) -> String {
         let right = right.map(|right| &right.1);
-        answer.words() + &first_wrong(table, right, self.op.width())
+        answer.words() + &first_wrong("table", table, right, self.op.width())
     }
 
     fn replay(&self) -> Option<String> {

@@ -200,7 +200,7 @@ impl Compare for Case<'_> {
 
     fn said(&self, answer: &Answer, right: Option<&Answer>) -> String {
         let right = right.map(|right| &right.rows);
-        said(answer.code, "rows") + &first_wrong(&answer.rows, right, ROW)
+        said(answer.code, "rows") + &first_wrong("rows", &answer.rows, right, ROW)
     }
 
     fn replay(&self) -> Option<String> {
