@@ -1,6 +1,8 @@
 //! Tables that are lent to a call: every word can be seen to have been written or to have stayed, also those behind the
 //! lent ones.
 
+use crate::case::said;
+
 /// A word of a lent table, and what it holds before the call.
 pub trait Word: Copy + Eq + std::fmt::Debug {
     fn before(i: usize) -> Self;
@@ -53,6 +55,21 @@ pub fn first_wrong<T: Word>(
         "; {table} row {row} word {word}{behind} is {:?}, not {:?}",
         given[i], right[i]
     )
+}
+
+/// The answer of a call that is lent one table, as it comes, and every word of the table as it is afterwards.
+#[derive(Clone, PartialEq, Eq)]
+pub struct Answer {
+    pub code: u64,
+    pub table: Vec<u32>,
+}
+
+impl Answer {
+    /// In words: how many an accepted one counts, and the first wrong word.
+    pub fn words(&self, what: &str, right: Option<&Answer>, row: usize) -> String {
+        let right = right.map(|right| &right.table);
+        said(self.code, what) + &first_wrong("table", &self.table, right, row)
+    }
 }
 
 /// A table of so many words that it cannot be filled: addresses without memory, all zeros, that may be read alone. A

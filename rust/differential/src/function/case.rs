@@ -8,9 +8,9 @@ use published::file::parser::function::parse_function_headers;
 use published::format::{empty_header, FunctionHeader, FunctionHeaderLayout, FLAG_OVERFLOWED};
 use published::io::ByteReader;
 
-use crate::case::{self, bytes_word, printed, replayed, said, table_word};
+use crate::case::{self, bytes_word, printed, replayed, table_word};
 use crate::case::{Compare, Difference, Refusal, Words};
-use crate::lent::{copied, first_wrong};
+use crate::lent::{copied, Answer};
 use crate::meter;
 use crate::search::last;
 
@@ -113,13 +113,6 @@ pub struct Case<'a> {
     pub high: usize,
     /// The words lent, as they are before the call.
     pub table: &'a [u32],
-}
-
-/// The answer as it comes, and every word lent as it is afterwards.
-#[derive(Clone, PartialEq, Eq)]
-pub struct Answer {
-    pub code: u64,
-    pub table: Vec<u32>,
 }
 
 /// A row by the Rust's header of a function.
@@ -256,6 +249,11 @@ pub fn right(case: &Case, table: &mut [u32]) -> Result<u32, Refusal> {
 }
 
 impl Case<'_> {
+    /// Another call on the same, of so many functions or about one.
+    pub fn of(self, op: Op, count: u32) -> Self {
+        Case { op, count, ..self }
+    }
+
     /// The call itself, with a table of so many words.
     pub fn make(&self, table: *mut u32, words: usize) -> u64 {
         let (s, len) = (self.file.as_ptr(), self.file.len());
@@ -316,8 +314,7 @@ impl Compare for Case<'_> {
 
     fn said(&self, answer: &Answer, right: Option<&Answer>) -> String {
         let what = if self.op == Meets { "" } else { "rows" };
-        said(answer.code, what)
-            + &first_wrong("table", &answer.table, right.map(|right| &right.table), ROW)
+        answer.words(what, right, ROW)
     }
 
     fn replay(&self) -> Option<String> {

@@ -40,6 +40,15 @@ pub struct Table {
 }
 
 impl Table {
+    pub fn new(layout: Layout, file: Vec<u8>, start: usize, count: u32) -> Self {
+        Table {
+            file,
+            layout,
+            start,
+            count,
+        }
+    }
+
     pub fn case<'a>(&'a self, op: Op, table: &'a [u32]) -> Case<'a> {
         Case {
             op,
@@ -119,12 +128,12 @@ fn says(run: &mut Run, case: Case, told: Result<&[u32], Refusal>) -> Compared {
 fn worked(run: &mut Run) -> Compared {
     let mut random = run.random(1);
     let lent = words(&mut random, 3 * ROW + 5);
-    let mut table = Table {
-        file: vec![0, 1, 0, 4, 0x0A, 0x80, 1, 0, 0, 0, 0, 0x0A, 1, 2, 3, 4],
-        layout: Layout::Legacy,
-        start: 0,
-        count: 1,
-    };
+    let mut table = Table::new(
+        Layout::Legacy,
+        vec![0, 1, 0, 4, 0x0A, 0x80, 1, 0, 0, 0, 0, 0x0A, 1, 2, 3, 4],
+        0,
+        1,
+    );
     let p1 = [0, 0, 256, 2, 10, 3, 0, 5, 4, 1, 2, 3, 0, 0, 0, 0];
     says(run, table.case(Read, &lent), Ok(&p1))?;
     table.layout = Layout::Modern;
@@ -167,12 +176,7 @@ fn worked(run: &mut Run) -> Compared {
 
     // The large header of function 0 cut, and header 1 cut: a fresh read names the first, a refresh the second.
     for layout in LAYOUTS {
-        let mut table = Table {
-            file: vec![0; 2 * layout.own() - 1],
-            layout,
-            start: 0,
-            count: 2,
-        };
+        let mut table = Table::new(layout, vec![0; 2 * layout.own() - 1], 0, 2);
         table.point(&mut random, 0, 1);
         says(run, table.case(Read, &lent), Err((3, 0)))?;
         let span = (0, table.file.len());
@@ -188,12 +192,7 @@ fn bits(run: &mut Run) -> Compared {
     let lent = words(&mut random, 2 * ROW);
     for layout in LAYOUTS {
         let (own, large) = (layout.own(), layout.large());
-        let mut table = Table {
-            file: bytes(&mut random, own + large + 3),
-            layout,
-            start: 0,
-            count: 1,
-        };
+        let mut table = Table::new(layout, bytes(&mut random, own + large + 3), 0, 1);
         for (from, size) in [(0, own), (own, large)] {
             for bit in 0..8 * size {
                 for fill in [0, 0xFF] {
@@ -228,12 +227,7 @@ fn flags(run: &mut Run) -> Compared {
     let lent = words(&mut random, ROW);
     for layout in LAYOUTS {
         let (own, large) = (layout.own(), layout.large());
-        let mut table = Table {
-            file: bytes(&mut random, own + large),
-            layout,
-            start: 0,
-            count: 1,
-        };
+        let mut table = Table::new(layout, bytes(&mut random, own + large), 0, 1);
         table.point(&mut random, 0, own as u64);
         for inline in 0..=255 {
             table.file[own - 1] = inline;
@@ -313,21 +307,17 @@ fn places(run: &mut Run) -> Compared {
             let packed = (0..=len as u64 + 3).chain(far);
             let packed = packed.chain(farther.into_iter().filter(|_| layout == Layout::Legacy));
             for place in packed {
-                let mut table = Table {
-                    file: bytes(&mut random, len),
+                let mut table = Table::new(
                     layout,
-                    start: random.below(len - 2 * own + 1),
-                    count: 2,
-                };
+                    bytes(&mut random, len),
+                    random.below(len - 2 * own + 1),
+                    2,
+                );
                 table.header(0)[own - 1] &= !0x20;
                 table.point(&mut random, 1, place);
                 let lent = words(&mut random, 3 * ROW);
                 run.compare(&table.case(Read, &lent))?;
-                let alone = Case {
-                    count: 1,
-                    ..table.case(One, &lent)
-                };
-                run.compare(&alone)?;
+                run.compare(&table.case(One, &lent).of(One, 1))?;
                 // Spans that end before it, at its first byte, at its last and behind it; also past the file's end.
                 let place = place as usize;
                 for at in [
@@ -337,17 +327,9 @@ fn places(run: &mut Run) -> Compared {
                     place + large,
                 ] {
                     for span in [(at, at), (at, at + 1), (at, at + 9), (0, at), (at + 1, at)] {
-                        let (low, high) = span;
                         run.compare(&table.refresh(span, &lent))?;
-                        for count in [0, 1, 2] {
-                            let meets = Case {
-                                op: Meets,
-                                count,
-                                low,
-                                high,
-                                ..table.case(Meets, &[])
-                            };
-                            run.compare(&meets)?;
+                        for id in [0, 1, 2] {
+                            run.compare(&table.refresh(span, &[]).of(Meets, id))?;
                         }
                     }
                 }
@@ -406,12 +388,7 @@ pub fn any_table(random: &mut Random, layout: Option<Layout>) -> Table {
     let len = start + count as usize * layout.own();
     let behind = random.below(200);
     let behind = random.pick(&[0, behind, behind, behind]);
-    let mut table = Table {
-        file: bytes(random, len + behind),
-        layout,
-        start,
-        count,
-    };
+    let mut table = Table::new(layout, bytes(random, len + behind), start, count);
     for id in 0..count {
         if random.below(2) == 0 || table.file.len() < layout.large() {
             table.header(id)[layout.own() - 1] &= !0x20;
@@ -494,12 +471,7 @@ fn edit(run: &mut Run, random: &mut Random) -> Compared {
     }
     for id in 0..=before.count {
         for op in [One, Meets] {
-            let alone = Case {
-                op,
-                count: id,
-                ..after.refresh(span, &lent)
-            };
-            run.compare(&alone)?;
+            run.compare(&after.refresh(span, &lent).of(op, id))?;
         }
     }
     Ok(())
@@ -516,12 +488,7 @@ fn longest(run: &mut Run) -> Compared {
             file[tail..].copy_from_slice(&bytes(&mut random, 4096));
             let count = random.below(5);
             let behind = random.pick(&[0, 0, 1, own - 1, own, 100]);
-            let mut table = Table {
-                file,
-                layout,
-                start: LIMIT - behind - count * own,
-                count: count as u32,
-            };
+            let mut table = Table::new(layout, file, LIMIT - behind - count * own, count as u32);
             for id in 0..count as u32 {
                 let last = LIMIT - large;
                 let near = tail + random.below(4096 - large);
@@ -531,26 +498,15 @@ fn longest(run: &mut Run) -> Compared {
             let lent = words(&mut random, 6 * ROW);
             run.compare(&table.case(Read, &lent))?;
             for count in [0, table.count + 1] {
-                run.compare(&Case {
-                    count,
-                    ..table.case(Read, &lent)
-                })?;
+                run.compare(&table.case(Read, &lent).of(Read, count))?;
             }
             for low in [0, 4, tail, table.start, LIMIT - 1, LIMIT, LIMIT + 1] {
                 for high in [0, 1, 6, table.start + 1, LIMIT - 1, LIMIT, LIMIT + 1] {
                     let refresh = table.refresh((low, high), &lent);
                     run.compare(&refresh)?;
-                    for count in 0..=table.count {
-                        run.compare(&Case {
-                            op: Meets,
-                            count,
-                            ..refresh
-                        })?;
-                        run.compare(&Case {
-                            op: One,
-                            count,
-                            ..refresh
-                        })?;
+                    for id in 0..=table.count {
+                        run.compare(&refresh.of(Meets, id))?;
+                        run.compare(&refresh.of(One, id))?;
                     }
                 }
             }
@@ -569,26 +525,19 @@ fn longest(run: &mut Run) -> Compared {
 }
 
 fn too_long(run: &mut Run) -> Compared {
-    let table = Table {
-        file: vec![0; LIMIT + 1],
-        layout: Layout::Legacy,
-        start: 0,
-        count: 1,
-    };
+    let table = Table::new(Layout::Legacy, vec![0; LIMIT + 1], 0, 1);
     let lent = [7; ROW];
     for layout in 0..=2 {
         for start in [0, 1, LIMIT, LIMIT + 1, LIMIT + 2] {
             for count in [0, 1, 2] {
                 for span in [(0, 0), (0, 1), (1, 0), (0, LIMIT + 1), (0, LIMIT + 2)] {
                     for op in OPS {
-                        let long = Case {
-                            op,
+                        let long = table.refresh(span, &lent).of(op, count);
+                        run.compare(&Case {
                             layout,
                             start,
-                            count,
-                            ..table.refresh(span, &lent)
-                        };
-                        run.compare(&long)?;
+                            ..long
+                        })?;
                     }
                 }
             }
@@ -602,12 +551,7 @@ fn many(run: &mut Run) -> Compared {
     let mut random = run.random(9);
     const COUNT: u32 = 1_000_000;
     for layout in LAYOUTS {
-        let mut before = Table {
-            file: vec![0; LIMIT],
-            layout,
-            start: 128,
-            count: COUNT,
-        };
+        let mut before = Table::new(layout, vec![0; LIMIT], 128, COUNT);
         for id in 0..COUNT {
             let header = bytes(&mut random, layout.own());
             before.header(id).copy_from_slice(&header);

@@ -114,8 +114,8 @@ fn in_c(words: usize) -> Result<(u64, Vec<u32>), Difference> {
         ..sections::NONE
     }
     .compare()?;
-    answer.rows.truncate(words);
-    Ok((answer.code, answer.rows))
+    answer.table.truncate(words);
+    Ok((answer.code, answer.table))
 }
 
 fn sections(run: &mut Run) -> Compared {

@@ -100,7 +100,7 @@ fn most(soak: &mut Soak) -> Compared {
             }
         };
         let ours = case.ours()?;
-        rows_are(&ours.rows[..case.lent], ROW, |i, row| {
+        rows_are(&ours.table[..case.lent], ROW, |i, row| {
             row == [3, 4, 0, marks(i)]
         })?;
         case.told(ours.code, Ok(COUNT as u32))

@@ -5,7 +5,7 @@ use published::file::parser::buffer::literal;
 use published::io::ByteReader;
 
 use super::{file, refusal, told};
-use crate::case::{bytes_word, float_bits, printed, replayed, said};
+use crate::case::{bytes_word, code, float_bits, printed, replayed, said};
 use crate::case::{Compare, Difference, Words};
 use crate::meter;
 
@@ -98,7 +98,7 @@ impl Compare for Case<'_> {
     }
 
     fn said(&self, answer: &Answer, _: Option<&Answer>) -> String {
-        let said = said(u64::from(answer.number) << 32 | u64::from(answer.place), "");
+        let said = said(code(Err((answer.number, answer.place))), "");
         let (at, kind, float, word) = (answer.at, answer.kind, answer.float, answer.word);
         format!("{said}, cursor {at}, kind {kind}, float bits {float:016x}, word {word}")
     }

@@ -9,7 +9,7 @@ use published::io::ByteReader;
 
 use crate::case::{self, bytes_word, printed, replayed, said, table_word};
 use crate::case::{Compare, Difference, Refusal, Words};
-use crate::lent::{copied, first_wrong};
+use crate::lent::{copied, Answer};
 use crate::meter;
 
 /// The words of a section's row, and the rows that there are.
@@ -50,12 +50,6 @@ pub const NONE: Case = Case {
     aside: 0,
     rows: &[],
 };
-
-#[derive(PartialEq, Eq)]
-pub struct Answer {
-    pub code: u64,
-    pub rows: Vec<u32>,
-}
 
 /// What the Rust finds: a row for each section, and the pairs of the three tables.
 pub type Found = ([[u32; ROW]; ROWS], [Vec<(u32, u32)>; 3]);
@@ -117,25 +111,25 @@ impl Compare for Case<'_> {
         let (file, len) = (self.file.as_ptr(), self.file.len());
         let (given, sources) = (self.sources.is_some(), self.sources.unwrap_or(self.aside));
         let (start, regexps, storage, cjs) = (self.start, self.regexps, self.storage, self.cjs);
-        let mut rows = copied(self.rows);
-        let (lent, words) = (rows.as_mut_ptr(), self.rows.len());
+        let mut table = copied(self.rows);
+        let (lent, words) = (table.as_mut_ptr(), self.rows.len());
         let code = meter::call(|| unsafe {
             hbc_trailing_sections(
                 file, len, start, regexps, storage, cjs, given, sources, lent, words,
             )
         });
-        Ok(Answer { code, rows })
+        Ok(Answer { code, table })
     }
 
     fn right(&self, _: Option<&Answer>) -> (Answer, Option<Found>) {
         let found = right(self);
-        let mut rows = copied(self.rows);
+        let mut table = copied(self.rows);
         if let Ok((found, _)) = &found {
-            rows[..ROWS * ROW].copy_from_slice(found.as_flattened());
+            table[..ROWS * ROW].copy_from_slice(found.as_flattened());
         }
         let answer = found.as_ref().map(|_| ROWS as u32);
         let code = case::code(answer.map_err(|&why| why));
-        (Answer { code, rows }, found.ok())
+        (Answer { code, table }, found.ok())
     }
 
     /// They are had by the call that reads pairs, at the section's start.
@@ -170,8 +164,7 @@ impl Compare for Case<'_> {
     }
 
     fn said(&self, answer: &Answer, right: Option<&Answer>) -> String {
-        let wrong = first_wrong("rows", &answer.rows, right.map(|right| &right.rows), ROW);
-        said(answer.code, "rows") + &wrong
+        answer.words("rows", right, ROW)
     }
 
     fn replay(&self) -> Option<String> {

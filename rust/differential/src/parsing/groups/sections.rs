@@ -44,7 +44,7 @@ fn worked(run: &mut Run) -> Compared {
         storage: 0,
         ..padded
     };
-    assert_eq!(run.compare(&empty)?.rows[..4], [9, 3, 0, 0]);
+    assert_eq!(run.compare(&empty)?.table[..4], [9, 3, 0, 0]);
     Ok(())
 }
 

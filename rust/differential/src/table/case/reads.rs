@@ -6,7 +6,7 @@ use published::file::parser::table::*;
 use published::file::structure::StringKindType;
 use published::io::ByteReader;
 
-use crate::case::{bytes_word, printed, replayed, said};
+use crate::case::{bytes_word, code, printed, replayed, said};
 use crate::case::{Compare, Difference, Words};
 use crate::lent::{first_wrong, lent, Reserved};
 use crate::meter;
@@ -173,7 +173,7 @@ impl Case<'_> {
 
 impl Answer {
     fn words(&self) -> String {
-        let code = u64::from(self.number) << 32 | u64::from(self.place);
+        let code = code(Err((self.number, self.place)));
         format!("{}, cursor {}", said(code, ""), self.at)
     }
 }

@@ -8,10 +8,10 @@ use published::file::parser::table::{decode_string_table, parse_string_kinds};
 use published::file::structure::{StringKindEntry, StringTableEntry};
 use published::io::ByteReader;
 
-use crate::case::{bytes_word, code, printed, replayed, said, table_word};
+use crate::case::{bytes_word, code, printed, replayed, table_word};
 use crate::case::{Compare, Difference, Refusal, Words};
 use crate::inputs::bytes_of;
-use crate::lent::{first_wrong, lent};
+use crate::lent::{lent, Answer};
 use crate::meter;
 use crate::search::last;
 
@@ -53,13 +53,6 @@ fn text_of(bytes: &[u8], utf16: bool) -> String {
     let unit = |pair: &[u8]| u16::from_le_bytes([pair[0], pair[1]]);
     let units: Vec<u16> = bytes.chunks_exact(2).map(unit).collect();
     String::from_utf16_lossy(&units)
-}
-
-/// The answer as it comes, and every word lent as it is afterwards.
-#[derive(PartialEq, Eq)]
-pub struct Answer {
-    pub code: u64,
-    pub rows: Vec<u32>,
 }
 
 impl Case<'_> {
@@ -151,23 +144,15 @@ impl Compare for Case<'_> {
     type Besides = Vec<StringTableEntry>;
 
     fn ours(&self) -> Result<Answer, String> {
-        let mut rows = lent(Vec::new(), self.lent);
+        let mut table = lent(Vec::new(), self.lent);
+        let tables = [self.kinds, self.small, self.overflow];
+        let [(a, a_len), (b, b_len), (c, c_len)] = tables.map(|t| (t.as_ptr(), t.len()));
+        let (s, s_len) = (self.storage.as_ptr(), self.storage.len());
+        let (count, rows, len) = (self.count, table.as_mut_ptr(), self.lent);
         let code = meter::call(|| unsafe {
-            hbc_decode_strings(
-                self.count,
-                self.kinds.as_ptr(),
-                self.kinds.len(),
-                self.small.as_ptr(),
-                self.small.len(),
-                self.overflow.as_ptr(),
-                self.overflow.len(),
-                self.storage.as_ptr(),
-                self.storage.len(),
-                rows.as_mut_ptr(),
-                self.lent,
-            )
+            hbc_decode_strings(count, a, a_len, b, b_len, c, c_len, s, s_len, rows, len)
         });
-        Ok(Answer { code, rows })
+        Ok(Answer { code, table })
     }
 
     fn right(&self, ours: Option<&Answer>) -> (Answer, Vec<StringTableEntry>) {
@@ -176,14 +161,13 @@ impl Compare for Case<'_> {
             Ok((words, texts)) => (Ok(texts.len() as u32), words, texts),
             Err(refusal) => (Err(refusal), Vec::new(), Vec::new()),
         };
-        let rows = lent(words, self.lent);
-        let code = code(answer);
-        (Answer { code, rows }, texts)
+        let (code, table) = (code(answer), lent(words, self.lent));
+        (Answer { code, table }, texts)
     }
 
     /// The bytes that each row names.
     fn besides(&self, ours: &Answer, texts: Vec<StringTableEntry>) -> Result<(), String> {
-        let (storage, rows) = (self.storage, &ours.rows[..self.lent]);
+        let (storage, rows) = (self.storage, &ours.table[..self.lent]);
         for (i, (text, row)) in texts.iter().zip(rows.chunks(ROW)).enumerate() {
             let part = part(storage, rows, i).compare();
             part.map_err(|Difference(lines)| lines.join("; "))?;
@@ -199,8 +183,7 @@ impl Compare for Case<'_> {
     }
 
     fn said(&self, answer: &Answer, right: Option<&Answer>) -> String {
-        let right = right.map(|right| &right.rows);
-        said(answer.code, "rows") + &first_wrong("rows", &answer.rows, right, ROW)
+        answer.words("rows", right, ROW)
     }
 
     fn replay(&self) -> Option<String> {
