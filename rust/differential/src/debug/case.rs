@@ -3,7 +3,7 @@
 use bisquepond::debug::{CalleeRow, NameRow, ScopeRow, TextRow};
 use bisquepond::sys::{hbc_read_debug, LIMIT};
 use bisquepond::Row as _;
-use published::debug::DebugInfo;
+use published::debug::{DebugInfo, ScopeDescriptor};
 use published::io::ByteReader;
 
 use crate::case::{self, bytes_word, printed, replayed, said, table_word};
@@ -47,26 +47,12 @@ pub type Table = (*mut u32, usize);
 
 /// The call itself: its answer, and what it leaves in the counts.
 pub fn make(file: &[u8], offset: u32, tables: [Table; 4]) -> (u64, [usize; 4]) {
-    let [strings, scopes, names, callees] = tables;
-    let mut counts = [LENT; 4];
-    let [a, b, c, d] = &mut counts;
+    let [(a, a_len), (b, b_len), (c, c_len), (d, d_len)] = tables;
+    let (s, len, mut counts) = (file.as_ptr(), file.len(), [LENT; 4]);
+    let [w, x, y, z] = &mut counts;
     let code = meter::call(|| unsafe {
         hbc_read_debug(
-            file.as_ptr(),
-            file.len(),
-            offset,
-            strings.0,
-            strings.1,
-            scopes.0,
-            scopes.1,
-            names.0,
-            names.1,
-            callees.0,
-            callees.1,
-            a,
-            b,
-            c,
-            d,
+            s, len, offset, a, a_len, b, b_len, c, c_len, d, d_len, w, x, y, z,
         )
     });
     (code, counts)
@@ -200,20 +186,15 @@ pub fn check(case: &Case, rows: &Result<Rows, Refusal>) -> Result<(), String> {
         return Err("debug.rs has other strings".to_string());
     }
     let name = |&name: &u32| texts.get(name as usize).cloned().unwrap_or_default();
-    let same_scopes = scopes.len() / 5 == published.scope_descriptors.len()
-        && scopes
-            .chunks_exact(5)
-            .zip(&published.scope_descriptors)
-            .all(|(row, scope)| {
-                let named = &names[row[3] as usize..][..row[4] as usize];
-                row[0] == scope.offset
-                    && row[1] == scope.parent_offset.unwrap_or(NONE)
-                    && row[2] == scope.flags
-                    && scope
-                        .names
-                        .iter()
-                        .eq(named.iter().map(name).collect::<Vec<_>>().iter())
-            });
+    let same = |(row, scope): (&[u32], &ScopeDescriptor)| {
+        let named = names[row[3] as usize..][..row[4] as usize].iter();
+        row[0] == scope.offset
+            && row[1] == scope.parent_offset.unwrap_or(NONE)
+            && row[2] == scope.flags
+            && named.map(name).eq(scope.names.iter().cloned())
+    };
+    let (rows, found) = (scopes.chunks_exact(5), &published.scope_descriptors);
+    let same_scopes = rows.len() == found.len() && rows.zip(found).all(same);
     if !same_scopes {
         return Err("debug.rs has other scopes".to_string());
     }

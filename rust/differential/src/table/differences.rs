@@ -106,91 +106,60 @@ fn plain(text: &str) -> Text {
     (text.into(), false, false)
 }
 
-/// One row, with as many strings as there are entries.
-fn strings(
-    run: &mut Run,
-    what: &str,
-    strings: Strings,
-    rust: Result<Vec<Text>, String>,
-    ours: Result<Vec<u32>, (u32, u32)>,
-) -> Compared {
-    let count = strings.small.len() as u32;
-    row(run, what)
-        .rust(rust_strings(&strings, count), rust)?
-        .ours(our_strings(&strings, count), ours)
-}
-
-const NONE: Strings = Strings {
-    kinds: &[],
-    small: &[],
-    overflow: &[],
-    storage: &[],
-};
-
 /// A small entry.
 const fn entry(offset: u32, len: u32) -> u32 {
     len << 24 | offset << 1
 }
 
+/// Strings of no kind runs.
+fn strings<'a>(small: &'a [u32], overflow: &'a [[u32; 2]], storage: &'a [u8]) -> Strings<'a> {
+    let kinds = &[];
+    Strings {
+        kinds,
+        small,
+        overflow,
+        storage,
+    }
+}
+
 /// Finding c: strings of one text that are not the same.
 fn texts(run: &mut Run) -> Compared {
-    strings(
+    let small = [entry(0, 14), entry(14, 0)];
+    let two = strings(&small, &[], b"<invalid utf8>");
+    row(
         run,
         "c: a string that reads `<invalid utf8>`, and one past the storage",
-        Strings {
-            small: &[entry(0, 14), entry(14, 0)],
-            storage: b"<invalid utf8>",
-            ..NONE
-        },
-        Ok(vec![plain("<invalid utf8>"); 2]),
-        Ok(vec![0, 14, 0, 0, 0, 0, 1, 0]),
-    )?;
-    let wide: Vec<u8> = "<invalid utf16>"
-        .encode_utf16()
-        .flat_map(u16::to_le_bytes)
-        .collect();
-    strings(
+    )
+    .rust(rust_strings(&two, 2), Ok(vec![plain("<invalid utf8>"); 2]))?
+    .ours(our_strings(&two, 2), Ok(vec![0, 14, 0, 0, 0, 0, 1, 0]))?;
+    let text = "<invalid utf16>";
+    let wide: Vec<u8> = text.encode_utf16().flat_map(u16::to_le_bytes).collect();
+    let small = [entry(0, 15) | 1, entry(30, 0) | 1];
+    let two = strings(&small, &[], &wide);
+    row(
         run,
         "c: a string that reads `<invalid utf16>`, and one past the storage",
-        Strings {
-            small: &[entry(0, 15) | 1, entry(30, 0) | 1],
-            storage: &wide,
-            ..NONE
-        },
-        Ok(vec![("<invalid utf16>".into(), true, false); 2]),
-        Ok(vec![0, 30, 0, 1, 0, 0, 1, 1]),
-    )?;
-    strings(
-        run,
-        "c: FF, and EF BF BD",
-        Strings {
-            small: &[entry(0, 1), entry(1, 3)],
-            storage: b"\xFF\xEF\xBF\xBD",
-            ..NONE
-        },
-        Ok(vec![plain("\u{FFFD}"); 2]),
-        Ok(vec![0, 1, 0, 0, 1, 3, 0, 0]),
-    )?;
-    strings(
-        run,
-        "c: length 0 at 0, and at 1",
-        Strings {
-            small: &[entry(0, 0), entry(1, 0)],
-            storage: &[0; 2],
-            ..NONE
-        },
-        Ok(vec![plain(""); 2]),
-        Ok(vec![0, 0, 0, 0, 1, 0, 0, 0]),
     )
+    .rust(
+        rust_strings(&two, 2),
+        Ok(vec![(text.into(), true, false); 2]),
+    )?
+    .ours(our_strings(&two, 2), Ok(vec![0, 30, 0, 1, 0, 0, 1, 1]))?;
+    let small = [entry(0, 1), entry(1, 3)];
+    let two = strings(&small, &[], b"\xFF\xEF\xBF\xBD");
+    row(run, "c: FF, and EF BF BD")
+        .rust(rust_strings(&two, 2), Ok(vec![plain("\u{FFFD}"); 2]))?
+        .ours(our_strings(&two, 2), Ok(vec![0, 1, 0, 0, 1, 3, 0, 0]))?;
+    let small = [entry(0, 0), entry(1, 0)];
+    let two = strings(&small, &[], &[0; 2]);
+    row(run, "c: length 0 at 0, and at 1")
+        .rust(rust_strings(&two, 2), Ok(vec![plain(""); 2]))?
+        .ours(our_strings(&two, 2), Ok(vec![0, 0, 0, 0, 1, 0, 0, 0]))
 }
 
 /// Fewer entries than the count says, and fewer rows.
 fn counts(run: &mut Run) -> Compared {
-    let one = Strings {
-        small: &[0],
-        storage: &[0],
-        ..NONE
-    };
+    let one = strings(&[0], &[], &[0]);
     row(run, "count 2, one entry")
         .rust(rust_strings(&one, 2), Ok(vec![plain("")]))?
         .ours(our_strings(&one, 2), Ok(vec![0; 4]))?;
@@ -202,78 +171,43 @@ fn counts(run: &mut Run) -> Compared {
 
 /// Finding l: both sides alike. The fields of the long entries name each other's pair.
 fn overflow(run: &mut Run) -> Compared {
-    strings(
-        run,
-        "l: two long entries, their fields 1 and 0",
-        Strings {
-            small: &[entry(1, 255), entry(0, 255)],
-            overflow: &[[0, 1], [1, 1]],
-            storage: b"ab",
-            ..NONE
-        },
-        Ok(vec![plain("a"), plain("b")]),
-        Ok(vec![0, 1, 0, 0, 1, 1, 0, 0]),
-    )?;
+    let small = [entry(1, 255), entry(0, 255)];
+    let two = strings(&small, &[[0, 1], [1, 1]], b"ab");
+    row(run, "l: two long entries, their fields 1 and 0")
+        .rust(rust_strings(&two, 2), Ok(vec![plain("a"), plain("b")]))?
+        .ours(our_strings(&two, 2), Ok(vec![0, 1, 0, 0, 1, 1, 0, 0]))?;
     // One past the greatest offset that a field holds would be the sentinel; the bits there are the length's.
-    strings(
-        run,
-        "l: the greatest offset, 0x7FFFFF, length 0, no pair",
-        Strings {
-            small: &[entry(0x7F_FFFF, 0)],
-            ..NONE
-        },
-        Ok(vec![plain("<invalid utf8>")]),
-        Ok(vec![0, 0, 1, 0]),
-    )?;
-    strings(
-        run,
-        "l: 0x800000 in the offset's place, no pair",
-        Strings {
-            small: &[0x80_0000 << 1],
-            storage: b"a",
-            ..NONE
-        },
-        Ok(vec![plain("a")]),
-        Ok(vec![0, 1, 0, 0]),
-    )?;
-    strings(
-        run,
-        "length 255, no pair",
-        Strings {
-            small: &[entry(0, 255)],
-            ..NONE
-        },
-        Err("overflow string entry missing".into()),
-        Err((8, 0)),
-    )?;
-    strings(
-        run,
-        "UTF-16, start 0 and length 2^31, two bytes",
-        Strings {
-            small: &[entry(0, 255) | 1],
-            overflow: &[[0, 1 << 31]],
-            storage: &[0; 2],
-            ..NONE
-        },
-        Ok(vec![("<invalid utf16>".into(), true, false)]),
-        Ok(vec![0, 0, 1, 1]),
-    )
+    let small = [entry(0x7F_FFFF, 0)];
+    let one = strings(&small, &[], &[]);
+    row(run, "l: the greatest offset, 0x7FFFFF, length 0, no pair")
+        .rust(rust_strings(&one, 1), Ok(vec![plain("<invalid utf8>")]))?
+        .ours(our_strings(&one, 1), Ok(vec![0, 0, 1, 0]))?;
+    let one = strings(&[0x80_0000 << 1], &[], b"a");
+    row(run, "l: 0x800000 in the offset's place, no pair")
+        .rust(rust_strings(&one, 1), Ok(vec![plain("a")]))?
+        .ours(our_strings(&one, 1), Ok(vec![0, 1, 0, 0]))?;
+    let small = [entry(0, 255)];
+    let (one, missing) = (strings(&small, &[], &[]), "overflow string entry missing");
+    row(run, "length 255, no pair")
+        .rust(rust_strings(&one, 1), Err(missing.into()))?
+        .ours(our_strings(&one, 1), Err((8, 0)))?;
+    let small = [entry(0, 255) | 1];
+    let one = strings(&small, &[[0, 1 << 31]], &[0; 2]);
+    let invalid = ("<invalid utf16>".into(), true, false);
+    row(run, "UTF-16, start 0 and length 2^31, two bytes")
+        .rust(rust_strings(&one, 1), Ok(vec![invalid]))?
+        .ours(our_strings(&one, 1), Ok(vec![0, 0, 1, 1]))
 }
 
 /// Finding l: runs of no strings and of no identifiers, and one string.
 fn kinds(run: &mut Run) -> Compared {
-    strings(
-        run,
-        "l: runs 00000000 and 80000000, one string",
-        Strings {
-            kinds: &[0, 1 << 31],
-            small: &[0],
-            storage: b"a",
-            ..NONE
-        },
-        Ok(vec![("".into(), false, true)]),
-        Ok(vec![0, 0, 0, 2]),
-    )
+    let one = Strings {
+        kinds: &[0, 1 << 31],
+        ..strings(&[0], &[], b"a")
+    };
+    row(run, "l: runs 00000000 and 80000000, one string")
+        .rust(rust_strings(&one, 1), Ok(vec![("".into(), false, true)]))?
+        .ours(our_strings(&one, 1), Ok(vec![0, 0, 0, 2]))
 }
 
 /// Finding j.
@@ -285,15 +219,8 @@ fn longer(run: &mut Run) -> Compared {
     row(run, "j: one pair of 2^30 + 1 bytes")
         .rust(rust(&long, PAIRS[0], 1), (Ok(()), 8))?
         .ours(our_pairs(&long, 0, 1), (Err((1, 0)), 0, [7; 2]))?;
-    strings(
-        run,
-        "j: one string of a storage of 2^30 + 1 bytes",
-        Strings {
-            small: &[0],
-            storage: &long,
-            ..NONE
-        },
-        Ok(vec![plain("")]),
-        Err((1, 0)),
-    )
+    let one = strings(&[0], &[], &long);
+    row(run, "j: one string of a storage of 2^30 + 1 bytes")
+        .rust(rust_strings(&one, 1), Ok(vec![plain("")]))?
+        .ours(our_strings(&one, 1), Err((1, 0)))
 }

@@ -67,41 +67,22 @@ pub struct Answer {
 
 impl Case<'_> {
     fn make(&self, call: Call, other: &[u8], kinds: *mut u32, payloads: *mut u64) -> u64 {
-        let Case { offset, count, .. } = *self;
-        let (kinds_len, payloads_len) = (self.kinds, self.payloads);
+        let (offset, count) = (self.offset, self.count);
+        let (k, k_len, p, p_len) = (kinds, self.kinds, payloads, self.payloads);
         // All but 0 names the keys.
         let (keys, values, yes) = match call {
-            Keys => {
-                let yes = [1, 2, 1 << 31, u32::MAX][count as usize % 4];
-                (self.buffer, other, yes)
-            }
-            _ => (other, self.buffer, 0),
+            Keys => (
+                self.buffer,
+                other,
+                [1, 2, 1 << 31, u32::MAX][count as usize % 4],
+            ),
+            Series | Values => (other, self.buffer, 0),
         };
+        let [(a, a_len), (b, b_len)] = [keys, values].map(|s| (s.as_ptr(), s.len()));
         meter::call(|| unsafe {
             match call {
-                Series => hbc_read_series(
-                    values.as_ptr(),
-                    values.len(),
-                    offset,
-                    count,
-                    kinds,
-                    kinds_len,
-                    payloads,
-                    payloads_len,
-                ),
-                _ => hbc_read_object(
-                    keys.as_ptr(),
-                    keys.len(),
-                    values.as_ptr(),
-                    values.len(),
-                    yes,
-                    offset,
-                    count,
-                    kinds,
-                    kinds_len,
-                    payloads,
-                    payloads_len,
-                ),
+                Series => hbc_read_series(b, b_len, offset, count, k, k_len, p, p_len),
+                _ => hbc_read_object(a, a_len, b, b_len, yes, offset, count, k, k_len, p, p_len),
             }
         })
     }
