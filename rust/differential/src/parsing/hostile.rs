@@ -55,7 +55,8 @@ fn read(file: &[u8], functions: &[u32], count: u32, rows: usize) -> Result<Strin
 /// Functions that share one table of a thousand handlers: a small file, and very many rows.
 fn shared(soak: &mut Soak) -> Compared {
     const COUNT: usize = 1 << 13;
-    let size = size(COUNT * 1000 * 16, COUNT * 1000 * 16 * 8);
+    let bytes = COUNT * 1000 * 4 * ROW;
+    let size = size(bytes, 8 * bytes);
     soak.case("handlers, 8,192 functions share a thousand", size, |file| {
         fill(file, 4 + 4 + 12_000, &[0xE8, 3, 0, 0]);
         let functions = function(4, HAS).repeat(COUNT);
