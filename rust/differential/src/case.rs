@@ -129,8 +129,8 @@ pub fn float_bits(value: f64) -> u64 {
 }
 
 /// Bytes that a difference still prints, words of a table that it still prints, and words lent that a replay still makes.
-const BYTES: usize = 4096;
-const WORDS: usize = 1024;
+const BYTES: usize = 1 << 14;
+const WORDS: usize = 1 << 12;
 const LENT: usize = 1 << 24;
 
 /// Whether a call can be replayed by these bytes, tables and numbers of words lent.

@@ -144,7 +144,7 @@ impl Compare for Case<'_> {
             LENT => "no total".to_string(),
             total => format!("{total} rows"),
         };
-        let wrong = first_wrong("rows", &answer.rows, right.map(|right| &right.rows), ROW);
+        let wrong = first_wrong("table", &answer.rows, right.map(|right| &right.rows), ROW);
         format!("{}, {total}{wrong}", said(answer.code, ""))
     }
 
