@@ -2,10 +2,10 @@
 
 use harness::Random;
 
+use super::case::{literal, series};
 use super::groups::{any_runs, push_tag, WIDTHS};
-use super::{literal, series};
+use crate::inputs::any_bytes;
 use crate::record::{Fields, Sample};
-use crate::words::any_bytes;
 
 const NAMES: [&str; 4] = [
     "read_literal",

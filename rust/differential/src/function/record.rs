@@ -2,11 +2,11 @@
 
 use harness::Random;
 
+use super::case::Op::*;
+use super::case::{right, Case, Layout, LAYOUTS, ROW};
 use super::groups::{any_table, edited, Table};
-use super::Op::*;
-use super::{right, Case, Layout, LAYOUTS, ROW};
+use crate::inputs::any_bytes;
 use crate::record::{Fields, Sample, FILL};
-use crate::words::any_bytes;
 
 const NAMES: [&str; 8] = [
     "read_functions legacy16",

@@ -1,10 +1,12 @@
 //! Hostile inputs for the cursor layer.
 
+use bisquepond::sys::LIMIT;
 use harness::Random;
 
-use super::{Case, Op, LIMIT, OPS};
-use crate::hostile::{file_of, fill, mixed, ten, Compared, Size, Soak};
-use crate::run::Difference;
+use super::case::{case, Op, OPS};
+use crate::case::{Compare, Compared, Difference};
+use crate::hostile::{file_of, size, Soak};
+use crate::inputs::{fill, mixed, ten};
 
 /// Lengths, targets and alignments that no file has.
 const FAR: [usize; 6] = [0, 1, LIMIT, u32::MAX as usize, 1 << 63, usize::MAX];
@@ -47,16 +49,6 @@ pub fn soak(soak: &mut Soak) -> Compared {
     soak.at_random(1 << 12, any)
 }
 
-fn compare(op: Op, input: &[u8], at: usize, argument: usize) -> Result<String, Difference> {
-    let case = Case {
-        op,
-        input,
-        at,
-        argument,
-    };
-    Ok(case.compare()?.words(op))
-}
-
 /// Every call from both ends, from past the end, and with numbers as large as there are.
 fn far_numbers(file: &[u8]) -> Result<String, Difference> {
     for op in OPS {
@@ -67,7 +59,7 @@ fn far_numbers(file: &[u8]) -> Result<String, Difference> {
                 continue;
             }
             for argument in FAR {
-                compare(op, file, at, argument)?;
+                case(op, file, at, argument).compare()?;
             }
         }
     }
@@ -77,7 +69,7 @@ fn far_numbers(file: &[u8]) -> Result<String, Difference> {
 fn walk(file: &[u8], places: impl Iterator<Item = usize>) -> Result<String, Difference> {
     for at in places {
         for op in LEB128 {
-            compare(op, file, at, 0)?;
+            case(op, file, at, 0).compare()?;
         }
     }
     Ok("each as expected".to_string())
@@ -87,22 +79,19 @@ fn walk(file: &[u8], places: impl Iterator<Item = usize>) -> Result<String, Diff
 fn longest_texts(soak: &mut Soak) -> Compared {
     soak.case("zero-ended, no zero, 2^30 bytes", file_of(LIMIT), |file| {
         fill(file, LIMIT, b"a");
-        compare(Op::Cstring, file, 0, 0)
+        case(Op::Cstring, file, 0, 0).compared()
     })?;
     // The Rust makes a text of it.
-    let size = Size {
-        work: LIMIT,
-        memory: 4 * LIMIT,
-    };
+    let size = size(LIMIT, 4 * LIMIT);
     soak.case("zero-ended, the zero last, 2^30 bytes", size, |file| {
         fill(file, LIMIT, b"a");
         file[LIMIT - 1] = 0;
-        compare(Op::Cstring, file, 0, 0)
+        case(Op::Cstring, file, 0, 0).compared()
     })?;
     soak.case("prefix of ten bytes, all that is left", size, |file| {
         fill(file, LIMIT, b"a");
         file[..10].copy_from_slice(&ten(LIMIT as u64 - 10));
-        compare(Op::LengthPrefixedString, file, 0, 0)
+        case(Op::LengthPrefixedString, file, 0, 0).compared()
     })?;
     soak.case(
         "prefix of ten bytes, one more than that",
@@ -110,7 +99,7 @@ fn longest_texts(soak: &mut Soak) -> Compared {
         |file| {
             fill(file, LIMIT, b"a");
             file[..10].copy_from_slice(&ten(LIMIT as u64 - 9));
-            compare(Op::LengthPrefixedString, file, 0, 0)
+            case(Op::LengthPrefixedString, file, 0, 0).compared()
         },
     )
 }
@@ -123,7 +112,7 @@ fn any(random: &mut Random) -> Compared {
     for op in OPS {
         let at = random.below(file.len() + 2);
         let argument = random.pick(&FAR) ^ random.below(16);
-        compare(op, &file, at, argument)?;
+        case(op, &file, at, argument).compare()?;
     }
     Ok(())
 }

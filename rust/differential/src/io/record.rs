@@ -3,9 +3,9 @@
 
 use harness::{count, Random};
 
+use super::case::Op::*;
+use super::case::{rust, Answer, Case, Op, OPS, PLAIN};
 use super::groups::any_byte;
-use super::Op::*;
-use super::{rust, Answer, Case, Op, OPS, PLAIN};
 
 const MOST_BYTES: usize = 60_000;
 

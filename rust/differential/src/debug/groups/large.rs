@@ -1,12 +1,13 @@
 //! Sections with many rows, as files have them.
 
+use bisquepond::sys::LIMIT;
 use harness::Random;
 
-use super::super::ROWS;
-use super::{on, sleb, Compared, Section};
-use crate::io::LIMIT;
+use super::{on, Section};
+use crate::case::Compared;
+use crate::debug::case::ROWS;
+use crate::inputs::{any_words, sleb};
 use crate::run::Run;
-use crate::words::any_words;
 
 /// The order of callees.
 #[derive(Clone, Copy)]

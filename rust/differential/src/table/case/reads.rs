@@ -6,11 +6,10 @@ use published::file::parser::table::*;
 use published::file::structure::StringKindType;
 use published::io::ByteReader;
 
-use crate::io::LIMIT;
-use crate::lent::{Lent, Reserved};
+use crate::case::{bytes_word, code, printed, replayed, said};
+use crate::case::{Compare, Difference, Words};
+use crate::lent::{first_wrong, lent, Reserved};
 use crate::meter;
-use crate::run::{number as parsed, Difference};
-use crate::shown::{argued, argument, difference, said, LENT, PRINTED};
 
 #[derive(Clone, Copy, PartialEq, Eq, Debug)]
 pub enum Op {
@@ -82,6 +81,16 @@ pub struct Case<'a> {
     pub lent: usize,
 }
 
+pub fn read(op: Op, input: &[u8], at: usize, count: u32, lent: usize) -> Case<'_> {
+    Case {
+        op,
+        input,
+        at,
+        count,
+        lent,
+    }
+}
+
 #[derive(PartialEq, Eq)]
 pub struct Answer {
     pub number: u32,
@@ -89,15 +98,8 @@ pub struct Answer {
     pub at: usize,
 }
 
-impl Answer {
-    fn words(&self) -> String {
-        let at = self.at;
-        format!("{}, cursor {at}", said(self.number, self.place, "all read"))
-    }
-}
-
 impl Case<'_> {
-    fn call(&self, table: *mut u32) -> Answer {
+    fn make(&self, table: *mut u32) -> Answer {
         let call = match self.op {
             U32Table => hbc_read_u32_table,
             PairTable => hbc_read_pair_table,
@@ -146,7 +148,7 @@ impl Case<'_> {
 
     /// What is right, and the words read: document 01's where that refuses at once, else what all of the Rust's readers
     /// answer. They differ in the types they fill alone; of a great table one is enough.
-    pub fn right(&self) -> Vec<(Answer, Vec<u32>)> {
+    pub fn readers(&self) -> Vec<(Answer, Vec<u32>)> {
         if let Some(answer) = self.refused_at_once() {
             return vec![(answer, Vec::new())];
         }
@@ -155,71 +157,80 @@ impl Case<'_> {
         readers.map(|&read| self.rust(read)).collect()
     }
 
-    /// Compares with the Rust, and where document 01 refuses at once, with that.
-    pub fn compare(&self) -> Result<(), Difference> {
-        let mut table = Lent::new(self.lent);
-        let given = self.call(table.as_mut_ptr());
-        let same = |expected: Answer, words: &[u32]| {
-            if given != expected {
-                return Err(self.difference(&expected, given.words()));
-            }
-            let held = table.holds(words);
-            held.map_err(|wrong| self.difference(&expected, wrong))
-        };
-        for (expected, words) in self.right() {
-            same(expected, &words)?;
-        }
-        Ok(())
-    }
-
     /// Compares a call that must be refused, into a table that can't be written.
-    pub fn compare_refused(&self, table: &Reserved<u32>) -> Result<(), Difference> {
+    pub fn compare_refused(&self, table: &Reserved<u32>) -> Result<String, Difference> {
         assert!(self.lent <= table.len());
-        let expected = match self.refused_at_once() {
-            Some(expected) => expected,
-            None => self.rust(self.op.readers()[0]).0,
-        };
-        assert!(expected.number != 0);
-        let given = self.call(table.as_mut_ptr());
-        if given != expected {
-            return Err(self.difference(&expected, given.words()));
+        let at_once = self.refused_at_once();
+        let right = at_once.unwrap_or_else(|| self.rust(self.op.readers()[0]).0);
+        assert!(right.number != 0);
+        let ours = self.make(table.as_mut_ptr());
+        match ours == right {
+            true => Ok(ours.words()),
+            false => Err(self.difference(&right.words(), &ours.words())),
         }
-        Ok(())
-    }
-
-    fn difference(&self, expected: &Answer, given: String) -> Difference {
-        let Case {
-            op,
-            input,
-            at,
-            count,
-            lent,
-        } = self;
-        let bytes = input.len();
-        let replay = || format!("table {op:?} {at} {count} {lent} {}", argument(input));
-        difference(
-            format!("{op:?} at {at}, {count} entries into {lent} words, {bytes} bytes of input"),
-            &expected.words(),
-            &given,
-            (bytes <= PRINTED && *lent <= LENT).then(replay),
-        )
     }
 }
 
-pub fn replay(call: &str, words: &[String]) -> Result<Result<String, Difference>, String> {
-    let op = OPS.into_iter().find(|op| format!("{op:?}") == call);
-    let [at, count, lent, bytes] = words else {
-        return Err(format!("{call} needs CURSOR COUNT WORDS BYTES"));
-    };
-    let case = Case {
-        op: op.ok_or(format!("{OPS:?}, Strings or StringBytes is needed"))?,
-        input: &argued(bytes)?,
-        at: parsed(at)?,
-        count: parsed(count)?,
-        lent: parsed(lent)?,
-    };
-    let answer = case.call(Lent::<u32>::new(case.lent).as_mut_ptr());
-    Ok(case
-        .compare()
-        .map(|()| format!("as expected: {}", answer.words())))
+impl Answer {
+    fn words(&self) -> String {
+        let code = code(Err((self.number, self.place)));
+        format!("{}, cursor {}", said(code, ""), self.at)
+    }
+}
+
+impl Compare for Case<'_> {
+    type Answer = (Answer, Vec<u32>);
+    /// What the Rust's other readers answer.
+    type Besides = Vec<(Answer, Vec<u32>)>;
+
+    fn ours(&self) -> Result<Self::Answer, String> {
+        let mut table = lent(Vec::new(), self.lent);
+        let answer = self.make(table.as_mut_ptr());
+        Ok((answer, table))
+    }
+
+    fn right(&self, _: Option<&Self::Answer>) -> (Self::Answer, Self::Besides) {
+        let readers = self.readers().into_iter();
+        let mut all = readers.map(|(answer, words)| (answer, lent(words, self.lent)));
+        let first = all.next().expect("a reader");
+        (first, all.collect())
+    }
+
+    fn besides(&self, ours: &Self::Answer, others: Self::Besides) -> Result<(), String> {
+        match others.iter().find(|other| *other != ours) {
+            None => Ok(()),
+            Some(other) => {
+                let (ours, right) = (self.said(ours, Some(other)), self.said(other, None));
+                Err(format!("{ours}, and by another reader {right}"))
+            }
+        }
+    }
+
+    fn call(&self) -> String {
+        let (op, at, count, lent, bytes) =
+            (self.op, self.at, self.count, self.lent, self.input.len());
+        format!("{op:?} at {at}, {count} entries into {lent} words, {bytes} bytes of input")
+    }
+
+    fn said(&self, (answer, table): &Self::Answer, right: Option<&Self::Answer>) -> String {
+        let right = right.map(|right| &right.1);
+        answer.words() + &first_wrong("table", table, right, self.op.width())
+    }
+
+    fn replay(&self) -> Option<String> {
+        let (op, at, count, lent) = (self.op, self.at, self.count, self.lent);
+        let words = || {
+            format!(
+                "table {op:?} {at} {count} {lent} {}",
+                bytes_word(self.input)
+            )
+        };
+        printed(self.input, &[], &[lent]).then(words)
+    }
+}
+
+pub fn replay(words: &mut Words) -> Result<String, Difference> {
+    let (op, at) = (words.one_of(&OPS)?, words.number()?);
+    let (count, lent) = (words.number()?, words.number()?);
+    replayed(&read(op, &words.bytes()?, at, count, lent), words)
 }

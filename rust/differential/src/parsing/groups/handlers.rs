@@ -1,191 +1,14 @@
-//! The exception handlers of a table of functions.
+//! The groups of handlers.
 
-use bisquepond::sys::hbc_read_handlers;
+use bisquepond::sys::LIMIT;
 use harness::Random;
-use published::file::parser::parsing;
-use published::format::{FunctionHeader, LegacyFunctionHeader};
 
-use crate::io::LIMIT;
-use crate::meter;
-use crate::run::{number as parsed, Difference, Run};
-use crate::words::{
-    self, any_bytes, any_words, bytes_word, first_wrong, said, table_word, word_bytes, word_table,
-    Refusal,
+use crate::case::{Compare, Compared, Difference};
+use crate::inputs::{any_bytes, any_words};
+use crate::parsing::case::handlers::{
+    function, published, Case, FLAGS, FUNCTION, HAS, INFO_OFFSET, ROW,
 };
-
-type Compared = Result<(), Difference>;
-
-/// The words of a function's row, and those of them that are read.
-pub const FUNCTION: usize = 16;
-pub const INFO_OFFSET: usize = 6;
-pub const FLAGS: usize = 8;
-
-/// The words of a handler's row.
-pub const ROW: usize = 4;
-
-/// The flag of a function that has handlers.
-pub const HAS: u32 = 8;
-
-/// One call. `functions` and `rows` are the words lent, as they are before it.
-#[derive(Clone, Copy)]
-pub struct Case<'a> {
-    pub file: &'a [u8],
-    pub functions: &'a [u32],
-    pub count: u32,
-    pub rows: &'a [u32],
-}
-
-/// The answer, how many rows it says, and every word lent afterwards.
-#[derive(PartialEq, Eq)]
-pub struct Answer {
-    code: u64,
-    total: usize,
-    rows: Vec<u32>,
-}
-
-/// What the total holds before a call, so that a refused one can be seen to have left it.
-const LENT: usize = 0xA5A5_A5A5_A5A5_A5A5;
-
-fn ours(case: &Case) -> Result<Answer, String> {
-    let (file, len) = (case.file.as_ptr(), case.file.len());
-    let (functions, words) = (case.functions.as_ptr(), case.functions.len());
-    let mut total = LENT;
-    let (code, rows) = words::lend(case.rows, |rows, rows_len| {
-        meter::call(|| unsafe {
-            hbc_read_handlers(
-                file, len, functions, words, case.count, rows, rows_len, &mut total,
-            )
-        })
-    })?;
-    Ok(Answer { code, total, rows })
-}
-
-/// A header as the Rust holds it, numbered as its row. Its flags are a byte there.
-fn header(function_id: u32, row: &[u32]) -> FunctionHeader {
-    FunctionHeader::Legacy(LegacyFunctionHeader {
-        function_id,
-        offset: row[2],
-        param_count: row[3],
-        bytecode_size_in_bytes: row[4],
-        function_name: row[5],
-        info_offset: row[INFO_OFFSET],
-        frame_size: row[7],
-        environment_size: 0,
-        highest_read_cache_index: 0,
-        highest_write_cache_index: 0,
-        flags: row[FLAGS] as u8,
-    })
-}
-
-/// The Rust's handlers of the functions of these rows.
-pub fn published(file: &[u8], functions: &[u32]) -> Vec<[u32; ROW]> {
-    let rows = functions.chunks_exact(FUNCTION).zip(0..);
-    let headers: Vec<_> = rows.map(|(row, id)| header(id, row)).collect();
-    let found = parsing::handlers(file, &headers);
-    let rows = found.iter().flat_map(|(&id, handlers)| {
-        let row = move |handler: &published::file::ExceptionHandler| {
-            [id, handler.start, handler.end, handler.target]
-        };
-        handlers.iter().map(row)
-    });
-    rows.collect()
-}
-
-/// What is right: the handlers by the Rust, the refusals by document 01.
-pub fn right(case: &Case) -> Result<Vec<[u32; ROW]>, Refusal> {
-    if case.file.len() > LIMIT {
-        return Err((1, 0));
-    }
-    let count = case.count as usize;
-    if case.functions.len() / FUNCTION < count {
-        return Err((11, 0));
-    }
-    let found = published(case.file, &case.functions[..count * FUNCTION]);
-    if case.rows.len() / ROW < found.len() {
-        return Err((4, 0));
-    }
-    Ok(found)
-}
-
-fn expected(case: &Case) -> Answer {
-    let mut rows = case.rows.to_vec();
-    let (code, total) = match right(case) {
-        Ok(found) => {
-            let words = found.concat();
-            rows[..words.len()].copy_from_slice(&words);
-            (0, found.len())
-        }
-        Err(refusal) => (words::code(Err(refusal)), LENT),
-    };
-    Answer { code, total, rows }
-}
-
-impl Answer {
-    pub fn words(&self, other: Option<&Answer>) -> String {
-        let wrong = other.map(|other| first_wrong(&self.rows, &other.rows, ROW));
-        let total = match self.total {
-            LENT => "no total".to_string(),
-            total => format!("{total} rows"),
-        };
-        format!("{}, {total}{}", said(self.code), wrong.unwrap_or_default())
-    }
-}
-
-impl Case<'_> {
-    pub fn compare(&self) -> Result<Answer, Difference> {
-        let expected = expected(self);
-        match ours(self) {
-            Ok(given) if given == expected => Ok(given),
-            Ok(given) => Err(self.difference(&expected, &given.words(Some(&expected)))),
-            Err(wrong) => Err(self.difference(&expected, &wrong)),
-        }
-    }
-
-    fn difference(&self, expected: &Answer, given: &str) -> Difference {
-        let Case {
-            file,
-            functions,
-            count,
-            rows,
-        } = *self;
-        let mut lines = vec![
-            format!(
-                "call      handlers of {count} functions, {} bytes of file, {} and {} words lent",
-                file.len(),
-                functions.len(),
-                rows.len()
-            ),
-            format!("expected  {}", expected.words(None)),
-            format!("libhbc_c  {given}"),
-        ];
-        if file.len() <= 4096 && functions.len() <= 1024 && rows.len() <= 1024 {
-            lines.push(format!(
-                "replay    --replay parsing Handlers {count} {} {} {}",
-                bytes_word(file),
-                table_word(functions),
-                table_word(rows)
-            ));
-        }
-        Difference(lines)
-    }
-}
-
-/// `COUNT FILE FUNCTIONS ROWS`.
-pub fn replay(words: &[String]) -> Result<String, String> {
-    let [count, file, functions, rows] = words else {
-        return Err("Handlers needs a count, a file, functions and rows".to_string());
-    };
-    let case = Case {
-        file: &word_bytes(file)?,
-        functions: &word_table(functions)?,
-        count: parsed(count)?,
-        rows: &word_table(rows)?,
-    };
-    let answer = case
-        .compare()
-        .map_err(|Difference(lines)| lines.join("\n  "))?;
-    Ok(format!("both sides: {}", answer.words(None)))
-}
+use crate::run::Run;
 
 pub fn compare(run: &mut Run) -> Compared {
     run.group("handlers: worked cases, counts to 1001", worked)?;
@@ -199,12 +22,6 @@ pub fn compare(run: &mut Run) -> Compared {
     Ok(())
 }
 
-fn case(run: &mut Run, case: Case) -> Compared {
-    case.compare()?;
-    run.equal();
-    Ok(())
-}
-
 /// Compares, and sees how many rows there are.
 fn gives(run: &mut Run, file: &[u8], functions: &[u32], rows: usize) -> Compared {
     let case = Case {
@@ -213,16 +30,8 @@ fn gives(run: &mut Run, file: &[u8], functions: &[u32], rows: usize) -> Compared
         count: (functions.len() / FUNCTION) as u32,
         rows: &vec![7; rows * ROW + 3],
     };
-    assert_eq!(case.compare()?.total, rows);
-    run.equal();
+    assert_eq!(run.compare(&case)?.total, rows);
     Ok(())
-}
-
-/// A function of which only two words are set.
-pub fn function(info_offset: u32, flags: u32) -> [u32; FUNCTION] {
-    let mut row = [0; FUNCTION];
-    (row[INFO_OFFSET], row[FLAGS]) = (info_offset, flags);
-    row
 }
 
 fn worked(run: &mut Run) -> Compared {
@@ -280,7 +89,7 @@ fn places(run: &mut Run) -> Compared {
                         count: 1,
                         rows: &lent,
                     };
-                    case(run, lone)?;
+                    run.compare(&lone)?;
                 }
             }
         }
@@ -319,7 +128,7 @@ fn tables(run: &mut Run) -> Compared {
                 count,
                 rows,
             };
-            case(run, all)?;
+            run.compare(&all)?;
         }
         for words in (0..functions.len()).rev() {
             for count in [count, random.below(count as usize + 2) as u32, u32::MAX] {
@@ -329,7 +138,7 @@ fn tables(run: &mut Run) -> Compared {
                     count,
                     rows: &lent,
                 };
-                case(run, fewer)?;
+                run.compare(&fewer)?;
             }
         }
     }
@@ -354,7 +163,7 @@ fn longest(run: &mut Run) -> Compared {
                             count,
                             rows: &lent,
                         };
-                        case(run, near)?;
+                        run.compare(&near)?;
                     }
                 }
             }
@@ -385,16 +194,8 @@ pub fn past_counting() -> Result<String, Difference> {
         count: COUNT,
         rows: &lent,
     };
-    let expected = Answer {
-        code: words::code(Err((4, 0))),
-        total: LENT,
-        rows: lent.clone(),
-    };
-    match ours(&many) {
-        Ok(given) if given == expected => Ok(given.words(None)),
-        Ok(given) => Err(many.difference(&expected, &given.words(Some(&expected)))),
-        Err(wrong) => Err(many.difference(&expected, &wrong)),
-    }
+    let answer = many.same(many.ours(), &many.refused((4, 0)))?;
+    Ok(many.said(&answer, None))
 }
 
 /// A file, and functions whose words are mostly of use in it.
@@ -456,7 +257,7 @@ pub fn random(run: &mut Run, random: &mut Random) -> Compared {
         },
         rows: &any_words(random, words),
     };
-    case(run, any)?;
+    run.compare(&any)?;
     let count = made.count;
-    case(run, Case { count, ..any })
+    run.compare(&Case { count, ..any }).map(drop)
 }

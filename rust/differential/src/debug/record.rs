@@ -2,10 +2,10 @@
 
 use harness::Random;
 
-use super::super::{check, expected, rows, Case, ROWS};
-use super::{good, sleb, Section};
+use super::case::{check, expected, rows, Case, ROWS};
+use super::groups::{good, Section};
+use crate::inputs::{any_bytes, sleb};
 use crate::record::{Fields, Sample, FILL};
-use crate::words::any_bytes;
 
 const NAMES: [&str; 7] = [
     "read_debug, offsets and headers",
