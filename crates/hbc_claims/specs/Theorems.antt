@@ -278,7 +278,8 @@ pub record Exact (bs : List ℕ) : Type 0 where
 
 pub record Packed (s : List ℕ) (at i : ℕ) : Type 0 where
   -- a packed place is or-ed from its two fields, in both layouts
-  pub or-ed : (r : Legacy) (q : Modern) → (legacyPlace r ≡ bitOr (r .«info_offset» * 65536) (r .offset)) × (modernPlace q ≡ bitOr (q .name * 2 ^ 24) (q .offset % 2 ^ 24))
+  pub or-ed : (r : Legacy) (q : Modern) → (legacyPlace r ≡ bitOr (r .«info_offset» * 65536) (r .offset))
+      × (modernPlace q ≡ bitOr (q .name * 2 ^ 24) (q .offset % 2 ^ 24))
   -- P3's is not their sum
   pub not-added : legacyPlace (packed.legacy 1 65552) ≡ 1 * 65536 + 65552 → ⊥
   -- a flagged header is read from the large one at its packed place, whatever that one's own flags: they are a field, and are not followed
@@ -313,7 +314,8 @@ pub record StringsRead (count : ℕ) (kinds small overflow storage t : List ℕ)
   pub within : (i : ℕ) → Within (length storage) (rowOf kinds small overflow (length storage) i)
   -- and string_bytes then hands back the bytes that it says
   pub bytes : (i : ℕ) → i < n
-      → stringBytes storage t′ i ≡ take (rowOf kinds small overflow (length storage) i .bytes) (drop (rowOf kinds small overflow (length storage) i .start) storage)
+      → stringBytes storage t′ i
+      ≡ take (rowOf kinds small overflow (length storage) i .bytes) (drop (rowOf kinds small overflow (length storage) i .start) storage)
 
 -- read_object of n bytes, count not 0: they lie in the named buffer, and object_part hands them back (`object-read`)
 abbrev pub ObjectRead : List ℕ → List ℕ → Bool → ℕ → Object → ℕ → Type 0

@@ -71,4 +71,5 @@ pub record Unique : Type 0 where
   pub hbc_read_debug :
       Both2 of-read-debug.Learnt
       (λ s. tables (now (s .1 .1 .0)) (now (s .1 .1 .1 .0)) (now (s .1 .1 .1 .1 .0)) (now (s .1 .1 .1 .1 .1 .0)))
-      (λ s. counts (now (s .1 .1 .1 .1 .1 .1 .0)) (now (s .1 .1 .1 .1 .1 .1 .1 .0)) (now (s .1 .1 .1 .1 .1 .1 .1 .1 .0)) (now (s .1 .1 .1 .1 .1 .1 .1 .1 .1 .0)))
+      (λ s. counts (now (s .1 .1 .1 .1 .1 .1 .0)) (now (s .1 .1 .1 .1 .1 .1 .1 .0)) (now (s .1 .1 .1 .1 .1 .1 .1 .1 .0))
+      (now (s .1 .1 .1 .1 .1 .1 .1 .1 .1 .0)))

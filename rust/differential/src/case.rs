@@ -32,7 +32,7 @@ pub trait Compare {
     /// What libhbc_c.a answers, or what is wrong with that whatever is right.
     fn ours(&self) -> Result<Self::Answer, String>;
 
-    /// What is right: what the Rust answers, and what document 01 says where the Rust has no word. What the Rust tells
+    /// What is right: what the Rust answers, and docs/FORMAT.md where the Rust has no word. What the Rust tells
     /// only when asked again and again is first asked for as in `ours`.
     fn right(&self, ours: Option<&Self::Answer>) -> (Self::Answer, Self::Besides);
 

@@ -200,7 +200,7 @@ fn compare(layers: &[&Layer], asked: &Asked) -> ExitCode {
         total += run.total;
     }
     println!(
-        "{} cases compared with the published Rust and document 01, 0 differences, seed {seed}, {:.1} s",
+        "{} cases compared with the published Rust and docs/FORMAT.md, 0 differences, seed {seed}, {:.1} s",
         count(total),
         begin.elapsed().as_secs_f64()
     );

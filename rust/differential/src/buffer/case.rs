@@ -36,7 +36,7 @@ fn file() -> &'static BytecodeFile {
     FILE.get_or_init(|| file_of((0..STRINGS).map(|i| format!("string {i}"))))
 }
 
-/// Kind and payload of document 01 for a value of the Rust.
+/// Kind and payload of docs/FORMAT.md, section 5.1, for a value of the Rust.
 fn told(value: &LiteralValue) -> (u32, u64) {
     match value {
         LiteralValue::Null => (0, 0),
@@ -56,7 +56,7 @@ fn string_number(text: &str) -> u64 {
     digits.parse().expect("a number")
 }
 
-/// The refusal number of document 01 for an error of the Rust.
+/// The refusal number of docs/FORMAT.md, section 1.1, for an error of the Rust.
 fn refusal(error: &Error) -> u32 {
     match error {
         Error::Parse(text) if text.starts_with("buffer offset out of range") => 7,

@@ -70,7 +70,7 @@ fn part(data: &[u8], from: u32, to: u32) -> (usize, &[u8]) {
     (from as usize, part.unwrap_or_default())
 }
 
-/// The rows by document 01, its numbers read by io.rs. [`check`] holds them against what debug.rs makes of the bytes.
+/// The rows by docs/FORMAT.md, its numbers read by io.rs. [`check`] holds them against what debug.rs makes of the bytes.
 pub fn rows(file: &[u8], offset: u32) -> Result<Rows, Refusal> {
     let mut rows = Rows::default();
     if offset == 0 || offset == u32::MAX || offset as usize >= file.len() {

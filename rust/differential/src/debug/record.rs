@@ -28,7 +28,7 @@ fn answers(group: usize) -> &'static [u32] {
     }
 }
 
-/// Adds a case with what is right: the rows by document 01, held against all that debug.rs answers.
+/// Adds a case with what is right: the rows by docs/FORMAT.md, held against all that debug.rs answers.
 fn lent(sample: &mut Sample, group: usize, file: &[u8], offset: u32, words: [usize; 4]) {
     assert!((0..4).all(|i| words[i] <= MOST_LENT[i]));
     let tables = words.map(|words| vec![FILL; words]);

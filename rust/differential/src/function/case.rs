@@ -66,7 +66,8 @@ impl Layout {
         self.ours().large_header_size()
     }
 
-    /// The packed place of a header, if it is flagged. The Rust hands none back; this is written from document 01.
+    /// The packed place of a header, if it is flagged. The Rust hands none back; this is
+    /// written from docs/FORMAT.md, section 3.3.
     pub fn place(self, header: &[u8]) -> Option<u64> {
         let word = |at: usize| u64::from_le_bytes(header[at..at + 8].try_into().unwrap());
         let offset = word(0) & ((1 << 25) - 1);
@@ -197,7 +198,7 @@ pub fn one(file: &[u8], layout: Layout, start: usize, id: u32) -> Result<Row, Re
     Ok(row)
 }
 
-/// What is right: rows and their refusals by the Rust, all else by document 01. The rows are written into `table`.
+/// What is right: rows and their refusals by the Rust, all else by docs/FORMAT.md. The rows are written into `table`.
 pub fn right(case: &Case, table: &mut [u32]) -> Result<u32, Refusal> {
     let Case {
         op,

@@ -11,7 +11,7 @@ use crate::inputs::{any_bytes as bytes, any_words as words};
 use crate::run::Run;
 
 pub fn compare(run: &mut Run) -> Compared {
-    run.group("worked cases of document 01", worked)?;
+    run.group("worked cases of docs/FORMAT.md", worked)?;
     run.group("every bit of a header", bits)?;
     run.group("every flags byte, inline and large", flags)?;
     run.group("lengths, starts, counts and tables", edges)?;
@@ -22,7 +22,7 @@ pub fn compare(run: &mut Run) -> Compared {
         (0..20_000).try_for_each(|_| edit(run, &mut random))
     })?;
     run.group("a file of 2^30 bytes", longest)?;
-    run.group("2^30 + 1 bytes, against document 01", too_long)?;
+    run.group("2^30 + 1 bytes, against docs/FORMAT.md", too_long)?;
     if run.full {
         run.group("10^6 functions over 2^30 bytes", many)?;
     }
@@ -115,7 +115,7 @@ impl Table {
     }
 }
 
-/// Compares, and sees that both sides answer what document 01 prints: one row, which begins with these words, or a
+/// Compares, and sees that both sides answer what docs/FORMAT.md prints: one row, which begins with these words, or a
 /// refusal, which leaves all as it was.
 fn says(run: &mut Run, case: Case, told: Result<&[u32], Refusal>) -> Compared {
     let answer = run.compare(&case)?;

@@ -122,7 +122,7 @@ pub fn rust(case: &Case) -> (Answer, Option<String>) {
     (answer, text)
 }
 
-/// The refusal number of document 01 for an error text of io.rs.
+/// The refusal number of docs/FORMAT.md, section 1.1, for an error text of io.rs.
 fn refusal(op: Op, answer: &Published<[u64; 2]>) -> u32 {
     let Err(error) = answer else {
         return 0;
@@ -145,7 +145,7 @@ fn refusal(op: Op, answer: &Published<[u64; 2]>) -> u32 {
     }
 }
 
-/// What document 01 says where the Rust's reader cannot stand, or was not meant to: an input longer than 2^30 bytes,
+/// What docs/FORMAT.md says where the Rust's reader cannot stand, or was not meant to: an input longer than 2^30 bytes,
 /// or a cursor past the end.
 fn document(case: &Case) -> Option<Answer> {
     let len = case.input.len();

@@ -24,9 +24,9 @@ pub fn compare(run: &mut Run) -> Compared {
     run.group("Bytes, every cursor", spans)?;
     run.group("Seek, every cursor", seeks)?;
     run.group("Align, every cursor", aligns)?;
-    run.group("cursors past the end, against document 01", past_the_end)?;
+    run.group("cursors past the end, against docs/FORMAT.md", past_the_end)?;
     run.group("an input of 2^30 bytes", longest)?;
-    run.group("2^30 + 1 bytes, against document 01", too_long)?;
+    run.group("2^30 + 1 bytes, against docs/FORMAT.md", too_long)?;
     run.group("the differences that docs list", differences::listed)?;
     run.group("random", random)
 }

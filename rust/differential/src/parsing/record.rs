@@ -99,7 +99,8 @@ pub fn write(mut random: Random) -> (Vec<u8>, Vec<String>) {
     sample.done(answers)
 }
 
-/// Document 01's cases: no handler where one of two is cut; a section whose padding leaves the file.
+/// The cases of docs/FORMAT.md, section 10.2: no handler where one of two is cut; a section whose padding leaves the
+/// file.
 fn worked(sample: &mut Sample) {
     let mut file = [0; 64];
     for (count, rows) in [(2, 0), (1, 1), (0, 0)] {

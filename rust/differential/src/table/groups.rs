@@ -25,7 +25,7 @@ pub fn compare(run: &mut Run) -> Compared {
     run.group("strings, all orders of long and short", overflow_order)?;
     run.group("strings, lent rows of any size", lent_rows)?;
     run.group("strings, storages to 2^23 and 2^30 bytes", long_storages)?;
-    run.group("one string's bytes, against document 01", parts)?;
+    run.group("one string's bytes, against docs/FORMAT.md", parts)?;
     if run.full {
         run.group("a whole file of 2^30 bytes", whole_file)?;
         run.group("strings of 2^30 bytes", longest_strings)?;

@@ -107,7 +107,7 @@ pub fn write(mut random: Random) -> (Vec<u8>, Vec<String>) {
     sample.done(answers)
 }
 
-/// P6 and P7 of document 01, and the smallest reads that it and the Rust leave at different cursors.
+/// P6 and P7 of docs/FORMAT.md, section 10.1, and the smallest reads that it and the Rust leave at different cursors.
 fn worked(sample: &mut Sample) {
     let p6 = strings::Case {
         count: 2,

@@ -34,7 +34,7 @@ const FLOAT: f64 = -1.25;
 const WORD: u32 = 0x5A5A_5A5A;
 
 impl Case<'_> {
-    /// What the Rust answers; where its reader can't stand, what document 01 says.
+    /// What the Rust answers; where its reader can't stand, what docs/FORMAT.md says.
     pub fn expected(&self) -> Answer {
         let mut answer = Answer {
             number: 0,

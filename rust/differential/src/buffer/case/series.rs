@@ -115,7 +115,7 @@ impl Case<'_> {
     }
 
     /// What the Rust answers, and what it doesn't say: how many bytes the values take (with one fewer it refuses), and
-    /// how many values come before the cut (one more it refuses). The limit and the lent tables are document 01's.
+    /// how many values come before the cut (one more it refuses). The limit and the lent tables are docs/FORMAT.md's.
     pub fn expected(&self, guess: u32) -> Expected {
         let refused = |number, place| Expected {
             number,

@@ -79,7 +79,7 @@ pub fn listed(file: &[u8], headers: &[FunctionHeader]) -> Vec<[u32; ROW]> {
     rows.collect()
 }
 
-/// What is right: the handlers by the Rust, the refusals by document 01.
+/// What is right: the handlers by the Rust, the refusals by docs/FORMAT.md.
 pub fn right(case: &Case) -> Result<Vec<[u32; ROW]>, Refusal> {
     if case.file.len() > LIMIT {
         return Err((1, 0));

@@ -88,7 +88,7 @@ fn published(case: &Case) -> Result<Found, Refusal> {
     ))
 }
 
-/// What is right: the sections by the Rust, 1 and 4 by document 01.
+/// What is right: the sections by the Rust, 1 and 4 by docs/FORMAT.md.
 pub fn right(case: &Case) -> Result<Found, Refusal> {
     if case.file.len() > LIMIT {
         return Err((1, 0));

@@ -13,7 +13,7 @@ pub fn compare(run: &mut Run) -> Compared {
     run.group("sections: all small counts in short files", small)?;
     run.group("sections: counts of any size", large)?;
     run.group("sections: tables lent", tables)?;
-    run.group("sections: 2^30 + 1 bytes, document 01", too_long)?;
+    run.group("sections: 2^30 + 1 bytes, docs/FORMAT.md", too_long)?;
     if run.full {
         run.group("sections: 2^30 bytes", longest)?;
     }

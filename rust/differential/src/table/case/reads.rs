@@ -114,7 +114,7 @@ impl Case<'_> {
         }
     }
 
-    /// What document 01 refuses before it reads, where the Rust has no such refusal: its reader has no limit, can't
+    /// What docs/FORMAT.md refuses before it reads, where the Rust has no such refusal: its reader has no limit, can't
     /// stand past the end, and lends no table.
     fn refused_at_once(&self) -> Option<Answer> {
         let number = match self.input.len() {
@@ -131,7 +131,7 @@ impl Case<'_> {
     }
 
     /// What one of the Rust's readers answers, and the words it read. Refused, it stands after the last whole word:
-    /// that says how many entries came before. Document 01 has the cursor where it was.
+    /// that says how many entries came before. docs/FORMAT.md has the cursor where it was.
     fn rust(&self, read: Reader) -> (Answer, Vec<u32>) {
         let mut reader = ByteReader::new(self.input);
         reader.seek(self.at).expect("a cursor within the input");
@@ -146,7 +146,7 @@ impl Case<'_> {
         (Answer { number, place, at }, words)
     }
 
-    /// What is right, and the words read: document 01's where that refuses at once, else what all of the Rust's readers
+    /// What is right, and the words read: by docs/FORMAT.md where that refuses at once, else what all the Rust's readers
     /// answer. They differ in the types they fill alone; of a great table one is enough.
     pub fn readers(&self) -> Vec<(Answer, Vec<u32>)> {
         if let Some(answer) = self.refused_at_once() {

@@ -61,7 +61,7 @@ impl Case<'_> {
         self.small.len().min(self.count as usize)
     }
 
-    /// Start, byte length and validity of each string, in the words of document 01: the Rust's texts don't tell the
+    /// Start, byte length and validity of each string, in the words of docs/FORMAT.md: the Rust's texts don't tell the
     /// start of an empty string, nor one part from another that reads the same.
     fn spans(&self) -> Vec<[u32; 3]> {
         let mut pairs = self.overflow.chunks_exact(2);
@@ -85,7 +85,7 @@ impl Case<'_> {
     }
 
     /// What is right: the words of the rows, with what the Rust made of them, or the refusal. What the Rust doesn't refuse
-    /// or tell is document 01's.
+    /// or tell is docs/FORMAT.md's.
     pub fn decoded(&self, guess: u32) -> Result<(Vec<u32>, Vec<StringTableEntry>), Refusal> {
         if self.storage.len() > LIMIT {
             return Err((1, 0));
@@ -212,7 +212,7 @@ pub fn part<'a>(storage: &'a [u8], rows: &'a [u32], index: usize) -> Part<'a> {
     }
 }
 
-/// Start and length of the part that a row names, by document 01: the Rust has no such call.
+/// Start and length of the part that a row names, by docs/FORMAT.md: the Rust has no such call.
 pub fn right_bytes(storage: &[u8], rows: &[u32], index: usize) -> (usize, usize) {
     match rows.chunks_exact(ROW).nth(index) {
         Some(&[start, len, 0, _]) if start as u64 + len as u64 <= storage.len() as u64 => {
