@@ -31,6 +31,7 @@ span-one e f = let m = moves-one (e .tells) (f .tells) in (m .0, m .1, same (e .
 
 pub unique : Unique
 unique = record {
+  code = λ k a r q s u. same;
   hbc_bits = λ k a r q s u. same;
   hbc_remaining = λ k a r q s u. same;
   hbc_seek = λ k a r q s u. moves-one;

@@ -1,9 +1,10 @@
 -- docs/FORMAT.md, section 1.6: each exported call's contract, as the checker has it, leaves one answer, and one value for every number and word that
--- was lent, in the order of its parameters.
+-- was lent, in the order of its parameters; and so does `code`, by which they tell a refusal.
 use denote.Ref.{now}
 use Rattle.hbc_debug.specs.Debug.{tables}
 use Rattle.hbc_c_debug.specs.Debug.{counts}
 use Rattle.hbc_claims_law.specs.Law.{One, Words, Both, Both2, Both3}
+use Rattle.hbc_c_code.proofs.code.Reads as of-code
 use Rattle.hbc_c.proofs.io.hbc_bits.Reads as of-bits
 use Rattle.hbc_c.proofs.io.hbc_remaining.Reads as of-remaining
 use Rattle.hbc_c.proofs.io.hbc_seek.Reads as of-seek
@@ -37,6 +38,7 @@ use Rattle.hbc_c.proofs.debug.hbc_read_debug.Reads as of-read-debug
 
 -- the calls by name
 pub record Unique : Type 0 where
+  pub code : One of-code.Learnt
   pub hbc_bits : One of-bits.Learnt
   pub hbc_remaining : One of-remaining.Learnt
   pub hbc_seek : Both of-seek.Learnt (λ s. now (s .1 .0))

@@ -5,19 +5,8 @@ ghost use lib.ListN.{length};
 ghost use Rattle.hbc_bits.specs.Bits.{leAt};
 ghost use Rattle.hbc_io.specs.Outcome.{limit};
 ghost use Rattle.hbc_function_record.specs.declared.Layout.the-variants.{Legacy16, Modern12};
-ghost use Rattle.hbc_function_record.specs.Record.{
-  sizeOf,
-  largeOf,
-  legacyOf,
-  modernOf,
-  inlineOf,
-  legacyLarge,
-  modernLarge,
-  overflowed,
-  legacyPlace,
-  modernPlace,
-  linkOf,
-};
+ghost use Rattle.hbc_function_record.specs.Record.{sizeOf, largeOf, legacyOf, modernOf, inlineOf, legacyLarge, modernLarge};
+ghost use Rattle.hbc_function_record.specs.Record.{overflowed, legacyPlace, modernPlace, linkOf};
 use crate::Layout;
 use crate::Legacy;
 use crate::Link;
