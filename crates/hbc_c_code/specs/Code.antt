@@ -1,4 +1,4 @@
--- docs/FORMAT.md, section 1: an answer as one number of 64 bits.
+-- docs/FORMAT.md, section 8.1: an answer as one number of 64 bits.
 use Prim.Native.Nat.{ℕ, _+_, _*_, _^_}
 use Rattle.hbc_io.specs.Answer.{Answer, gives, refuses}
 use Rattle.hbc_io.specs.declared.Refusal.{Refusal}

@@ -1,4 +1,4 @@
--- docs/FORMAT.md, section 1: what an exported call promises: what the call behind it promises, its answer told as a number.
+-- docs/FORMAT.md, section 8: what an exported call promises: what the call behind it promises, its answer told as a number.
 use Prim.Native.Nat.{ℕ}
 use mathlib.Core.Path.{_≡_}
 use Rattle.hbc_io.specs.Outcome.{Outcome, got, refused}

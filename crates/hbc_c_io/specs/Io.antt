@@ -1,4 +1,4 @@
--- docs/FORMAT.md, section 2: a span that was read, as two numbers that the caller lends.
+-- docs/FORMAT.md, section 8.2: a span that was read, as two numbers that the caller lends.
 use mathlib.Core.Path.{_≡_}
 use Prim.Native.Nat.{ℕ}
 use Rattle.hbc_io.specs.Outcome.{Outcome, valued}
