@@ -7,7 +7,7 @@ use Rattle.hbc_bits.specs.Bits.{leAt, field}
 use Rattle.hbc_io.specs.Lends.{below, choose}
 use Rattle.hbc_io.specs.Plain.{plainAt}
 use Rattle.hbc_io_leb.specs.Leb.{lebBytes}
-use Rattle.hbc_function_record.specs.Record.{legacyOf, modernOf, legacyLarge, modernLarge, overflowed, legacyPlace, modernPlace}
+use Rattle.hbc_function_record.specs.Record.{legacyOf, modernOf, inlineOf, legacyLarge, modernLarge, largeAt, flagsOf, overflowed, legacyPlace, modernPlace, placeOf, linkOf}
 use Rattle.hbc_function_header.specs.Header.{groundOf, whereOf, whereAt, recordAt, functionAt, readFunction}
 use Rattle.hbc_rows.specs.Rows.{entryAt, filled, putRow, putRows}
 use Rattle.hbc_table_strings.specs.Kinds.{runKind, holding, movedOn, heldAt, kindOf}
@@ -19,6 +19,6 @@ use Rattle.hbc_buffer.specs.Series.{tagAt, headAt, runAt, step, after, valueAt,
 use Rattle.hbc_claims.specs.Cases.{cases}
 
 pub hold : All cases
-unfolding readFunction functionAt recordAt whereAt whereOf groundOf legacyOf modernOf legacyLarge modernLarge legacyPlace modernPlace leAt field overflowed below choose decodeAnswer lesser scan lacksPair rowOf rowWith rowFor entryOf bytesOf longOne pairsTaken pairTaken pairAt kindOf runKind movedOn heldAt holding entryAt putRow putRows seriesAnswer filled valueAt after step runAt headAt tagAt plainAt widthOf literalOf lebBytes
+unfolding readFunction functionAt recordAt whereAt whereOf groundOf inlineOf largeAt flagsOf placeOf linkOf legacyOf modernOf legacyLarge modernLarge legacyPlace modernPlace leAt field overflowed below choose decodeAnswer lesser scan lacksPair rowOf rowWith rowFor entryOf bytesOf longOne pairsTaken pairTaken pairAt kindOf runKind movedOn heldAt holding entryAt putRow putRows seriesAnswer filled valueAt after step runAt headAt tagAt plainAt widthOf literalOf lebBytes
 hold =
     (refl, (refl, (refl, (or-shifted 1 24 32 (lit< tt), (refl, (refl, (refl, (refl, ((refl, refl), ((refl, refl), ((refl, refl), ((refl, refl, refl), ((refl, refl, refl), (refl, (refl, (refl, tt))))))))))))))))
