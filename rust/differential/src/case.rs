@@ -95,10 +95,7 @@ pub trait Compare {
             format!("expected  {expected}"),
             format!("libhbc_c  {given}"),
         ];
-        lines.extend(
-            self.replay()
-                .map(|words| format!("replay    --replay {words}")),
-        );
+        lines.extend(self.replay().map(|words| format!("replay    --replay {words}")));
         Difference(lines)
     }
 }
@@ -158,8 +155,7 @@ pub struct Words<'a>(pub std::slice::Iter<'a, String>);
 impl Words<'_> {
     pub fn next(&mut self) -> Result<&str, String> {
         let word = self.0.next();
-        word.map(String::as_str)
-            .ok_or("a word is missing".to_string())
+        word.map(String::as_str).ok_or("a word is missing".to_string())
     }
 
     /// Whether the next word is this name, which is then taken.
@@ -193,9 +189,7 @@ impl Words<'_> {
     pub fn one_of<T: Copy + Debug>(&mut self, all: &[T]) -> Result<T, String> {
         let word = self.next()?;
         let found = all.iter().find(|one| format!("{one:?}") == word);
-        found
-            .copied()
-            .ok_or(format!("one of {all:?} is needed, not {word}"))
+        found.copied().ok_or(format!("one of {all:?} is needed, not {word}"))
     }
 }
 

@@ -51,10 +51,7 @@ pub fn first_wrong<T: Word>(
     let lent = i < given.len() - BEHIND;
     let behind = if lent { "" } else { ", behind what is lent," };
     let (row, word) = (i / row, i % row);
-    format!(
-        "; {table} row {row} word {word}{behind} is {:?}, not {:?}",
-        given[i], right[i]
-    )
+    format!("; {table} row {row} word {word}{behind} is {:?}, not {:?}", given[i], right[i])
 }
 
 /// The answer of a call that is lent one table, as it comes, and every word of the table as it is afterwards.
@@ -93,10 +90,7 @@ impl<T> Reserved<T> {
         let bytes = len * size_of::<T>();
         let at = std::ptr::null_mut();
         let begin = unsafe { mmap(at, bytes, READ, PRIVATE_ANONYMOUS_NORESERVE, -1, 0) };
-        (begin as isize != -1).then_some(Reserved {
-            begin: begin.cast(),
-            len,
-        })
+        (begin as isize != -1).then_some(Reserved { begin: begin.cast(), len })
     }
 
     pub fn len(&self) -> usize {

@@ -21,11 +21,7 @@ const STRINGS: u32 = 300;
 pub fn file_of(texts: impl Iterator<Item = String>) -> BytecodeFile {
     let header = empty_header(FunctionHeaderLayout::Legacy16);
     let mut file = parsing::trailing(&[], &mut ByteReader::new(&[]), header).unwrap();
-    let entry = |value| StringTableEntry {
-        value,
-        is_utf16: false,
-        is_identifier: false,
-    };
+    let entry = |value| StringTableEntry { value, is_utf16: false, is_identifier: false };
     file.strings = texts.map(entry).collect();
     file
 }

@@ -51,10 +51,7 @@ fn strings(run: &mut Run) -> Compared {
     for number in [0, 1] {
         row(run, "e: 61 00 and 61 01, two strings of one text")
             .rust(rust(&["a", "a"], &[0x61, number], 1), string("a"))?
-            .ours(
-                ours(&[0x61, number], 1),
-                (Ok(2), [4, 9], [number.into(), 9]),
-            )?;
+            .ours(ours(&[0x61, number], 1), (Ok(2), [4, 9], [number.into(), 9]))?;
     }
     row(run, "e: 61 00, a string that reads as a missing one")
         .rust(rust(&["<string:7>"], &[0x61, 0], 1), string("<string:7>"))?
@@ -98,10 +95,7 @@ fn tags(run: &mut Run) -> Compared {
     for (bits, (theirs, own)) in (0..).zip(values) {
         let rust = text(literal(&file(&[]), bits, &mut Theirs::new(&zeros)));
         row(run, "the eight tags, zeros")
-            .rust(
-                rust.map(|value| format!("{value:?}")),
-                Ok(format!("{theirs:?}")),
-            )?
+            .rust(rust.map(|value| format!("{value:?}")), Ok(format!("{theirs:?}")))?
             .ours(told(Ours::new(&zeros).read_literal(bits << 4)), Ok(own))?;
     }
     Ok(())

@@ -56,14 +56,7 @@ pub fn compare(run: &mut Run) -> Compared {
 }
 
 /// Cursors past any input here.
-const FAR: [usize; 6] = [
-    1 << 30,
-    1 << 32,
-    1 << 63,
-    usize::MAX - 8,
-    usize::MAX - 1,
-    usize::MAX,
-];
+const FAR: [usize; 6] = [1 << 30, 1 << 32, 1 << 63, usize::MAX - 8, usize::MAX - 1, usize::MAX];
 
 fn every_tag(run: &mut Run) -> Compared {
     let mut random = run.random(1);
@@ -288,27 +281,14 @@ fn far_counts(run: &mut Run) -> Compared {
         buffer.extend([0xAF, 0xFF].repeat(full % 5));
         buffer.extend(random_bytes(&mut random, full));
         for offset in [0, 1, 5, buffer.len() as u32, u32::MAX] {
-            let far = [
-                1 << 28,
-                1 << 29,
-                1 << 30,
-                (1 << 31) - 1,
-                1 << 31,
-                u32::MAX - 1,
-                u32::MAX,
-            ];
+            let far = [1 << 28, 1 << 29, 1 << 30, (1 << 31) - 1, 1 << 31, u32::MAX - 1, u32::MAX];
             for count in far {
                 lent_series(run, &buffer, offset, count, [9, 9])?;
                 let Some((kinds, payloads)) = &huge else {
                     continue;
                 };
                 let fits = count as usize;
-                for lent in [
-                    [fits, fits],
-                    [fits - 1, fits],
-                    [fits, fits - 1],
-                    [fits + 1, fits],
-                ] {
+                for lent in [[fits, fits], [fits - 1, fits], [fits, fits - 1], [fits + 1, fits]] {
                     let case = series::series(&buffer, offset, count, lent);
                     case.compare_refused(None, (kinds, payloads))?;
                     run.equal();

@@ -82,12 +82,7 @@ fn far_counts(soak: &mut Soak) -> Compared {
         ("2^30 values", [0x11].as_slice(), LIMIT, LIMIT),
         ("runs of 4,095 nulls", &[0x8F, 0xFF], 2 << 20, 4095 << 20),
         ("runs of one integer", &[0x71, 1, 2, 3, 4], LIMIT, LIMIT / 5),
-        (
-            "12-bit runs of one byte string",
-            &[0xE0, 1, 9],
-            LIMIT,
-            LIMIT / 3,
-        ),
+        ("12-bit runs of one byte string", &[0xE0, 1, 9], LIMIT, LIMIT / 3),
     ] {
         let name = format!("count 2^32 - 1, {name}");
         soak.filled(&name, (len, piece), |file| {
@@ -105,10 +100,7 @@ fn any(random: &mut Random) -> Compared {
         let lent = (count as usize).min(1 << 16) - random.below(2).min(count as usize);
         series(&buffer, 0, count, [lent; 2]).compare()?;
     }
-    let literal = literal::Case {
-        input: &buffer,
-        at: random.below(buffer.len() + 2),
-        tag: random.byte(),
-    };
+    let literal =
+        literal::Case { input: &buffer, at: random.below(buffer.len() + 2), tag: random.byte() };
     literal.compare().map(drop)
 }

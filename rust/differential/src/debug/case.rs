@@ -13,12 +13,7 @@ use crate::meter;
 
 /// The four tables, and the words of their rows.
 pub const TABLES: [&str; 4] = ["strings", "scopes", "names", "callees"];
-pub const ROWS: [usize; 4] = [
-    TextRow::WORDS,
-    ScopeRow::WORDS,
-    NameRow::WORDS,
-    CalleeRow::WORDS,
-];
+pub const ROWS: [usize; 4] = [TextRow::WORDS, ScopeRow::WORDS, NameRow::WORDS, CalleeRow::WORDS];
 
 /// No parent, and no such string.
 pub const NONE: u32 = u32::MAX;
@@ -51,9 +46,7 @@ pub fn make(file: &[u8], offset: u32, tables: [Table; 4]) -> (u64, [usize; 4]) {
     let (s, len, mut counts) = (file.as_ptr(), file.len(), [LENT; 4]);
     let [w, x, y, z] = &mut counts;
     let code = meter::call(|| unsafe {
-        hbc_read_debug(
-            s, len, offset, a, a_len, b, b_len, c, c_len, d, d_len, w, x, y, z,
-        )
+        hbc_read_debug(s, len, offset, a, a_len, b, b_len, c, c_len, d, d_len, w, x, y, z)
     });
     (code, counts)
 }
@@ -207,11 +200,8 @@ pub fn check(case: &Case, rows: &Result<Rows, Refusal>) -> Result<(), String> {
 
 /// What is right of the lent words.
 pub fn expected(case: &Case, rows: &Result<Rows, Refusal>) -> Answer {
-    let mut answer = Answer {
-        code: 0,
-        counts: [LENT; 4],
-        tables: case.tables.map(<[u32]>::to_vec),
-    };
+    let mut answer =
+        Answer { code: 0, counts: [LENT; 4], tables: case.tables.map(<[u32]>::to_vec) };
     let short = |rows: &&Rows| (0..4).any(|i| case.tables[i].len() < rows.tables[i].len());
     match rows {
         Err(refusal) => answer.code = case::code(Err(*refusal)),
@@ -234,11 +224,7 @@ impl Compare for Case<'_> {
         let mut tables = self.tables.map(copied);
         let lent = std::array::from_fn(|i| (tables[i].as_mut_ptr(), self.tables[i].len()));
         let (code, counts) = make(self.file, self.offset, lent);
-        Ok(Answer {
-            code,
-            counts,
-            tables,
-        })
+        Ok(Answer { code, counts, tables })
     }
 
     fn right(&self, _: Option<&Answer>) -> (Answer, ()) {
@@ -291,18 +277,9 @@ impl Compare for Case<'_> {
 /// `OFFSET FILE STRINGS SCOPES NAMES CALLEES`, as a difference prints them.
 pub fn replay(words: &mut Words) -> Result<String, Difference> {
     let (offset, file) = (words.number()?, words.bytes()?);
-    let tables = [
-        words.table()?,
-        words.table()?,
-        words.table()?,
-        words.table()?,
-    ];
+    let tables = [words.table()?, words.table()?, words.table()?, words.table()?];
     let tables = tables.each_ref().map(Vec::as_slice);
     let file = &file;
-    let case = Case {
-        file,
-        offset,
-        tables,
-    };
+    let case = Case { file, offset, tables };
     replayed(&case, words)
 }

@@ -66,12 +66,9 @@ fn texts(run: &mut Run) -> Compared {
     for strings in [&b"\x01\xFF"[..], b"\x03\xEF\xBF\xBD"] {
         let file = file(&[], &[], strings);
         let len = strings.len() as u32 - 1;
-        row(
-            run,
-            "a byte that is no UTF-8, and the text that stands for it",
-        )
-        .rust(&rust(&file).string_table[..], &["\u{FFFD}".into()])?
-        .ours(&ours(&file)?.tables[0][..2], &[30, len])?;
+        row(run, "a byte that is no UTF-8, and the text that stands for it")
+            .rust(&rust(&file).string_table[..], &["\u{FFFD}".into()])?
+            .ours(&ours(&file)?.tables[0][..2], &[30, len])?;
     }
     for name in 0..2 {
         let file = file(&[], &[1, 5, name], &[0, 0]);

@@ -56,11 +56,7 @@ pub fn on(
 
 pub fn case<'a>(file: &'a [u8], offset: u32, lent: &'a [Vec<u32>; 4]) -> Case<'a> {
     let tables = lent.each_ref().map(Vec::as_slice);
-    Case {
-        file,
-        offset,
-        tables,
-    }
+    Case { file, offset, tables }
 }
 
 /// A section in pieces: each number of scopes and callees is a piece of its own, so that it can be put in another way.
@@ -99,22 +95,10 @@ impl Section {
         let sizes = [&self.scopes, &self.callees, &self.strings];
         let [scopes, callees, strings] = sizes.map(|part| part.concat());
         let from = self.lines;
-        let offsets = [
-            from,
-            from + scopes.len(),
-            from + scopes.len() + callees.len(),
-        ];
+        let offsets = [from, from + scopes.len(), from + scopes.len() + callees.len()];
         let [first, second, third] = offsets.map(|offset| offset as u32);
         let size = third + strings.len() as u32;
-        for word in [
-            self.filenames,
-            self.storage,
-            self.regions,
-            first,
-            second,
-            third,
-            size,
-        ] {
+        for word in [self.filenames, self.storage, self.regions, first, second, third, size] {
             file.extend(word.to_le_bytes());
         }
         let skipped = 8 * self.filenames + self.storage + 12 * self.regions;

@@ -130,9 +130,7 @@ impl Part {
             let (begin, count) = self.make(file, LIMIT);
             let mut table = vec![7; count * width];
             let answer = self.call(file, table.as_mut_ptr(), table.len());
-            rows_are(&table, width, |i, row| {
-                *row == (self.row)(begin, i as u32)[..width]
-            })?;
+            rows_are(&table, width, |i, row| *row == (self.row)(begin, i as u32)[..width])?;
             let mut counts = [0; 4];
             counts[self.table] = count;
             same(answer, (0, counts))
@@ -204,10 +202,7 @@ fn claims(soak: &mut Soak) -> Compared {
             compare(file, [0, 5, 1 << 24, 0])
         })?;
     }
-    for (name, count) in [
-        ("2^32 - 1 callees", u32::MAX as u64),
-        ("2^63 callees", 1 << 63),
-    ] {
+    for (name, count) in [("2^32 - 1 callees", u32::MAX as u64), ("2^63 callees", 1 << 63)] {
         soak.filled(name, (LIMIT, &[0]), |file| {
             let data = (LIMIT - 60) as u32;
             header(file, 60, [0, 0, data - 1], data);
@@ -224,16 +219,8 @@ fn claims(soak: &mut Soak) -> Compared {
 
 /// Parts of hostile pieces in any order, between any three offsets.
 fn any(random: &mut Random, far: &[u32]) -> Compared {
-    let pieces: [&[u8]; 8] = [
-        &[0],
-        &CUT,
-        &ten(0),
-        &ten(1),
-        &ten(u64::MAX),
-        &[0xFF; 11],
-        &[0, 0, 2],
-        &[1],
-    ];
+    let pieces: [&[u8]; 8] =
+        [&[0], &CUT, &ten(0), &ten(1), &ten(u64::MAX), &[0xFF; 11], &[0, 0, 2], &[1]];
     let len = 100 + random.below(3000);
     let mut file = mixed(random, &pieces, len);
     let size = (file.len() - 60) as u32;

@@ -200,15 +200,7 @@ pub fn one(file: &[u8], layout: Layout, start: usize, id: u32) -> Result<Row, Re
 
 /// What is right: rows and their refusals by the Rust, all else by docs/FORMAT.md. The rows are written into `table`.
 pub fn right(case: &Case, table: &mut [u32]) -> Result<u32, Refusal> {
-    let Case {
-        op,
-        file,
-        start,
-        count,
-        low,
-        high,
-        ..
-    } = *case;
+    let Case { op, file, start, count, low, high, .. } = *case;
     let layout = *LAYOUTS.get(case.layout as usize).ok_or((12, 0))?;
     let meets = |&id: &u32| file.len() <= LIMIT && layout.meets(file, start, id, low, high);
     if op == Meets {

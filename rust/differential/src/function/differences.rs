@@ -79,15 +79,9 @@ fn refused(run: &mut Run) -> Compared {
     // The packed place is 2^32: a number of 32 bits would be 0, where 31 bytes are.
     let mut file = [0; 31];
     (file[10], file[FLAGS]) = (1, FLAGGED);
-    row(
-        run,
-        "i: packed place 2^32, 31 bytes, on a machine of 64 bits",
-    )
-    .rust(
-        legacy(&file, 1),
-        Err("seek out of range: 4294967296 > 31".into()),
-    )?
-    .ours(ours(&file, 0, 1, 1), (Err((2, 0)), left(1)))
+    row(run, "i: packed place 2^32, 31 bytes, on a machine of 64 bits")
+        .rust(legacy(&file, 1), Err("seek out of range: 4294967296 > 31".into()))?
+        .ours(ours(&file, 0, 1, 1), (Err((2, 0)), left(1)))
 }
 
 /// The zeros of finding g.
@@ -99,27 +93,18 @@ fn memory(run: &mut Run) -> Compared {
     let failed = format!("memory allocation of {asked} bytes failed");
     let whole = ZEROS / 16;
     let replayed = |side| bounded(&["function", "Zeros", side, &ZEROS.to_string()]);
-    row(
-        run,
-        "g: 2^32 - 1 functions of 64 MiB of zeros, address space of 2 GB",
-    )
-    .rust(replayed("Rust"), End::Signal(ABORT, failed))?
-    .ours(
-        replayed("ours"),
-        End::Said(format!("refused 4 at 0; refused 3 at {whole}")),
-    )?;
+    row(run, "g: 2^32 - 1 functions of 64 MiB of zeros, address space of 2 GB")
+        .rust(replayed("Rust"), End::Signal(ABORT, failed))?
+        .ours(replayed("ours"), End::Said(format!("refused 4 at 0; refused 3 at {whole}")))?;
     let Some(table) = Reserved::<u32>::new(u32::MAX as usize * ROW) else {
         return Ok(());
     };
     let (file, count) = (vec![0; ZEROS], u32::MAX);
     let (rows, len) = (table.as_mut_ptr(), table.len());
     let given = unsafe { hbc_read_functions(file.as_ptr(), file.len(), 0, 0, count, rows, len) };
-    row(
-        run,
-        "g: the same with all rows lent, and what the Rust clamps the count to",
-    )
-    .rust(ByteReader::new(&file).capacity_hint(count as usize), ZEROS)?
-    .ours(given, code(Err((3, whole as u32))))
+    row(run, "g: the same with all rows lent, and what the Rust clamps the count to")
+        .rust(ByteReader::new(&file).capacity_hint(count as usize), ZEROS)?
+        .ours(given, code(Err((3, whole as u32))))
 }
 
 /// `Zeros SIDE BYTES`: 2^32 - 1 legacy functions of so many zeros by one side, whose memory may be bounded.

@@ -41,12 +41,7 @@ pub struct Table {
 
 impl Table {
     pub fn new(layout: Layout, file: Vec<u8>, start: usize, count: u32) -> Self {
-        Table {
-            file,
-            layout,
-            start,
-            count,
-        }
+        Table { file, layout, start, count }
     }
 
     pub fn case<'a>(&'a self, op: Op, table: &'a [u32]) -> Case<'a> {
@@ -63,11 +58,7 @@ impl Table {
     }
 
     pub fn refresh<'a>(&'a self, (low, high): (usize, usize), table: &'a [u32]) -> Case<'a> {
-        Case {
-            low,
-            high,
-            ..self.case(Refresh, table)
-        }
+        Case { low, high, ..self.case(Refresh, table) }
     }
 
     fn header(&mut self, id: u32) -> &mut [u8] {
@@ -307,12 +298,8 @@ fn places(run: &mut Run) -> Compared {
             let packed = (0..=len as u64 + 3).chain(far);
             let packed = packed.chain(farther.into_iter().filter(|_| layout == Layout::Legacy));
             for place in packed {
-                let mut table = Table::new(
-                    layout,
-                    bytes(&mut random, len),
-                    random.below(len - 2 * own + 1),
-                    2,
-                );
+                let mut table =
+                    Table::new(layout, bytes(&mut random, len), random.below(len - 2 * own + 1), 2);
                 table.header(0)[own - 1] &= !0x20;
                 table.point(&mut random, 1, place);
                 let lent = words(&mut random, 3 * ROW);
@@ -320,12 +307,7 @@ fn places(run: &mut Run) -> Compared {
                 run.compare(&table.case(One, &lent).of(One, 1))?;
                 // Spans that end before it, at its first byte, at its last and behind it; also past the file's end.
                 let place = place as usize;
-                for at in [
-                    place.saturating_sub(1),
-                    place,
-                    place + large - 1,
-                    place + large,
-                ] {
+                for at in [place.saturating_sub(1), place, place + large - 1, place + large] {
                     for span in [(at, at), (at, at + 1), (at, at + 9), (0, at), (at + 1, at)] {
                         run.compare(&table.refresh(span, &lent))?;
                         for id in [0, 1, 2] {
@@ -512,10 +494,7 @@ fn longest(run: &mut Run) -> Compared {
             }
             for start in [LIMIT - 1, LIMIT, LIMIT + 1] {
                 for op in OPS {
-                    run.compare(&Case {
-                        start,
-                        ..table.case(op, &lent)
-                    })?;
+                    run.compare(&Case { start, ..table.case(op, &lent) })?;
                 }
             }
             file = table.file;
@@ -533,11 +512,7 @@ fn too_long(run: &mut Run) -> Compared {
                 for span in [(0, 0), (0, 1), (1, 0), (0, LIMIT + 1), (0, LIMIT + 2)] {
                     for op in OPS {
                         let long = table.refresh(span, &lent).of(op, count);
-                        run.compare(&Case {
-                            layout,
-                            start,
-                            ..long
-                        })?;
+                        run.compare(&Case { layout, start, ..long })?;
                     }
                 }
             }

@@ -24,18 +24,8 @@ pub fn soak(soak: &mut Soak) -> Compared {
             point(&mut file[last..last + layout.own()], layout, place);
         };
         for (name, op, asked, refusal) in [
-            (
-                "read of 2^30 bytes, the last large header cut",
-                Op::Read,
-                count,
-                (3, count - 1),
-            ),
-            (
-                "refresh of 2^30 bytes, the last one cut",
-                Op::Refresh,
-                count,
-                (3, count - 1),
-            ),
+            ("read of 2^30 bytes, the last large header cut", Op::Read, count, (3, count - 1)),
+            ("refresh of 2^30 bytes, the last one cut", Op::Refresh, count, (3, count - 1)),
         ] {
             soak.case(&named(name), file_of(LIMIT), |file| {
                 cut(file);
@@ -105,16 +95,7 @@ fn told(
 
 /// A call on a table at byte 0, with the whole file as span.
 fn case<'a>(file: &'a [u8], layout: Layout, op: Op, count: u32, table: &'a [u32]) -> Case<'a> {
-    Case {
-        op,
-        file,
-        layout: layout as u32,
-        start: 0,
-        count,
-        low: 0,
-        high: file.len(),
-        table,
-    }
+    Case { op, file, layout: layout as u32, start: 0, count, low: 0, high: file.len(), table }
 }
 
 /// Four million functions, all flagged, whose large headers overlap in the table itself, byte by byte.
@@ -141,21 +122,17 @@ fn most(soak: &mut Soak, layout: Layout) -> Compared {
     let count = LIMIT / layout.own();
     let size = file_of(LIMIT + 4 * ROW * count);
     for (op, name) in [(Op::Read, "read"), (Op::Refresh, "refresh")] {
-        soak.case(
-            &format!("{layout:?}, {name}, 2^30 bytes of headers"),
-            size,
-            |file| {
-                fill(file, LIMIT, &flagged(layout));
-                let mut table = vec![7; count * ROW];
-                let asked = case(file, layout, op, count as u32, &[]);
-                let code = asked.make(table.as_mut_ptr(), table.len());
-                let row = one(file, layout, 0, 0).expect("a large header at byte 0");
-                rows_are(&table, ROW, |i, given| {
-                    given[1] == i as u32 && given[0] == row[0] && given[2..] == row[2..]
-                })?;
-                asked.told(code, Ok(count as u32))
-            },
-        )?;
+        soak.case(&format!("{layout:?}, {name}, 2^30 bytes of headers"), size, |file| {
+            fill(file, LIMIT, &flagged(layout));
+            let mut table = vec![7; count * ROW];
+            let asked = case(file, layout, op, count as u32, &[]);
+            let code = asked.make(table.as_mut_ptr(), table.len());
+            let row = one(file, layout, 0, 0).expect("a large header at byte 0");
+            rows_are(&table, ROW, |i, given| {
+                given[1] == i as u32 && given[0] == row[0] && given[2..] == row[2..]
+            })?;
+            asked.told(code, Ok(count as u32))
+        })?;
     }
     Ok(())
 }

@@ -58,12 +58,7 @@ pub struct Case<'a> {
 }
 
 pub fn case(op: Op, input: &[u8], at: usize, argument: usize) -> Case<'_> {
-    Case {
-        op,
-        input,
-        at,
-        argument,
-    }
+    Case { op, input, at, argument }
 }
 
 /// What a call gave. The value of a number is its 64 bits, of a span its start and length, of a move nothing.
@@ -114,11 +109,7 @@ pub fn rust(case: &Case) -> (Answer, Option<String>) {
         }),
     };
     let number = refusal(case.op, &value);
-    let answer = Answer {
-        number,
-        at: reader.position(),
-        value: value.unwrap_or_default(),
-    };
+    let answer = Answer { number, at: reader.position(), value: value.unwrap_or_default() };
     (answer, text)
 }
 
@@ -156,11 +147,7 @@ fn document(case: &Case) -> Option<Answer> {
         Seek if case.argument <= len => 0,
         _ => 2,
     };
-    Some(Answer {
-        number,
-        at: if number == 0 { case.argument } else { case.at },
-        value: [0, 0],
-    })
+    Some(Answer { number, at: if number == 0 { case.argument } else { case.at }, value: [0, 0] })
 }
 
 impl Compare for Case<'_> {
@@ -247,9 +234,7 @@ impl Compare for Case<'_> {
         let part = String::from_utf8_lossy(&self.input[start..start + len]);
         match part == text {
             true => Ok(()),
-            false => Err(format!(
-                "the part read is {part:?}, the Rust's text {text:?}"
-            )),
+            false => Err(format!("the part read is {part:?}, the Rust's text {text:?}")),
         }
     }
 

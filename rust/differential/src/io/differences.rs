@@ -43,20 +43,14 @@ pub fn listed(run: &mut Run) -> Compared {
 
 fn ends(run: &mut Run) -> Compared {
     row(run, "cursor 1 in no bytes")
-        .rust(
-            rust(&[], |r| r.seek(1)),
-            (Err("seek out of range: 1 > 0".into()), 0),
-        )?
+        .rust(rust(&[], |r| r.seek(1)), (Err("seek out of range: 1 > 0".into()), 0))?
         .ours(ours(&[], 1, |r| r.read_u8()), (Err((2, 0)), 1))?;
     let end = "unexpected end of file: needed 1 bytes at offset 0 but only 0 remain";
     row(run, "read_u8 of no bytes")
         .rust(rust(&[], |r| r.read_u8()), (Err(end.into()), 0))?
         .ours(ours(&[], 0, |r| r.read_u8()), (Err((3, 0)), 0))?;
     row(run, "read_cstring of no bytes")
-        .rust(
-            rust(&[], |r| r.read_cstring()),
-            (Err("unterminated string".into()), 0),
-        )?
+        .rust(rust(&[], |r| r.read_cstring()), (Err("unterminated string".into()), 0))?
         .ours(ours(&[], 0, |r| r.read_cstring()), (Err((9, 0)), 0))
 }
 
@@ -67,10 +61,7 @@ fn nan(run: &mut Run) -> Compared {
     let theirs = || rust(&input, |r| r.read_f64().map(f64::to_bits));
     row(run, "read_f64 of 01 00 00 00 00 00 F0 7F")
         .rust(theirs(), (Ok(bits), 8))?
-        .ours(
-            ours(&input, 0, |r| r.read_f64().map(f64::is_nan)),
-            (Ok(true), 8),
-        )?;
+        .ours(ours(&input, 0, |r| r.read_f64().map(f64::is_nan)), (Ok(true), 8))?;
     row(run, "its bits by read_u64")
         .rust(theirs(), (Ok(bits), 8))?
         .ours(ours(&input, 0, |r| r.read_u64()), (Ok(bits), 8))
@@ -82,24 +73,15 @@ fn texts(run: &mut Run) -> Compared {
         let ended = [part, &[0]].concat();
         let end = ended.len();
         row(run, "read_cstring of FF 00, and of EF BF BD 00")
-            .rust(
-                rust(&ended, |r| r.read_cstring()),
-                (Ok("\u{FFFD}".into()), end),
-            )?
+            .rust(rust(&ended, |r| r.read_cstring()), (Ok("\u{FFFD}".into()), end))?
             .ours(ours(&ended, 0, |r| r.read_cstring()), (Ok(part), end))?;
         let prefixed = [&[part.len() as u8], part].concat();
-        row(
-            run,
-            "read_length_prefixed_string of 01 FF, and of 03 EF BF BD",
-        )
-        .rust(
-            rust(&prefixed, |r| r.read_length_prefixed_string()),
-            (Ok("\u{FFFD}".into()), end),
-        )?
-        .ours(
-            ours(&prefixed, 0, |r| r.read_length_prefixed_string()),
-            (Ok(part), end),
-        )?;
+        row(run, "read_length_prefixed_string of 01 FF, and of 03 EF BF BD")
+            .rust(
+                rust(&prefixed, |r| r.read_length_prefixed_string()),
+                (Ok("\u{FFFD}".into()), end),
+            )?
+            .ours(ours(&prefixed, 0, |r| r.read_length_prefixed_string()), (Ok(part), end))?;
     }
     Ok(())
 }
@@ -117,15 +99,9 @@ fn leb128(run: &mut Run) -> Compared {
         .ours(ours(&signed, 0, |r| r.read_sleb128()), (Ok(0), 10))?;
     let eleven = [&[0x80; 10][..], &[0]].concat();
     row(run, "ten 80, then 00, unsigned")
-        .rust(
-            rust(&eleven, |r| r.read_uleb128()),
-            (Err("LEB128 overflow".into()), 10),
-        )?
+        .rust(rust(&eleven, |r| r.read_uleb128()), (Err("LEB128 overflow".into()), 10))?
         .ours(ours(&eleven, 0, |r| r.read_uleb128()), (Err((5, 0)), 10))?;
     row(run, "ten 80, then 00, signed")
-        .rust(
-            rust(&eleven, |r| r.read_sleb128()),
-            (Err("SLEB128 overflow".into()), 10),
-        )?
+        .rust(rust(&eleven, |r| r.read_sleb128()), (Err("SLEB128 overflow".into()), 10))?
         .ours(ours(&eleven, 0, |r| r.read_sleb128()), (Err((5, 0)), 10))
 }

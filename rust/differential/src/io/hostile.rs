@@ -24,27 +24,22 @@ pub fn soak(soak: &mut Soak) -> Compared {
             far_numbers(file)
         })?;
     }
-    for (name, number) in [
-        ("ten-byte LEB128 everywhere, 0", 0),
-        ("ten-byte LEB128 everywhere, 2^64 - 1", u64::MAX),
-    ] {
+    for (name, number) in
+        [("ten-byte LEB128 everywhere, 0", 0), ("ten-byte LEB128 everywhere, 2^64 - 1", u64::MAX)]
+    {
         soak.case(name, file_of(1 << 24), |file| {
             fill(file, 1 << 24, &ten(number));
             walk(file, (0..file.len()).step_by(10))
         })?;
     }
     let places = soak.random(1);
-    soak.case(
-        "ten-byte LEB128 everywhere, 2^30 bytes",
-        file_of(LIMIT),
-        |file| {
-            fill(file, LIMIT, &ten(u64::MAX));
-            let mut places = places;
-            let near_the_end = LIMIT - 40..=LIMIT;
-            let places: Vec<usize> = (0..20_000).map(|_| 10 * places.below(LIMIT / 10)).collect();
-            walk(file, places.into_iter().chain(near_the_end))
-        },
-    )?;
+    soak.case("ten-byte LEB128 everywhere, 2^30 bytes", file_of(LIMIT), |file| {
+        fill(file, LIMIT, &ten(u64::MAX));
+        let mut places = places;
+        let near_the_end = LIMIT - 40..=LIMIT;
+        let places: Vec<usize> = (0..20_000).map(|_| 10 * places.below(LIMIT / 10)).collect();
+        walk(file, places.into_iter().chain(near_the_end))
+    })?;
     longest_texts(soak)?;
     soak.at_random(1 << 12, any)
 }
@@ -93,15 +88,11 @@ fn longest_texts(soak: &mut Soak) -> Compared {
         file[..10].copy_from_slice(&ten(LIMIT as u64 - 10));
         case(Op::LengthPrefixedString, file, 0, 0).compared()
     })?;
-    soak.case(
-        "prefix of ten bytes, one more than that",
-        file_of(LIMIT),
-        |file| {
-            fill(file, LIMIT, b"a");
-            file[..10].copy_from_slice(&ten(LIMIT as u64 - 9));
-            case(Op::LengthPrefixedString, file, 0, 0).compared()
-        },
-    )
+    soak.case("prefix of ten bytes, one more than that", file_of(LIMIT), |file| {
+        fill(file, LIMIT, b"a");
+        file[..10].copy_from_slice(&ten(LIMIT as u64 - 9));
+        case(Op::LengthPrefixedString, file, 0, 0).compared()
+    })
 }
 
 /// Numbers of one to eleven bytes in any order, read from any place.

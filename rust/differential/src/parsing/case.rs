@@ -11,8 +11,6 @@ pub fn replay(words: &mut Words) -> Result<String, Difference> {
         _ if words.called("Handlers") => handlers::replay(words),
         _ if words.called("Sections") => sections::replay(words),
         _ if words.called("Zeros") => super::differences::replay(words),
-        _ => Err("--replay parsing needs Handlers or Sections"
-            .to_string()
-            .into()),
+        _ => Err("--replay parsing needs Handlers or Sections".to_string().into()),
     }
 }

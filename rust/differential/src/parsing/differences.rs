@@ -31,10 +31,7 @@ fn function(id: u32, info_offset: u32) -> [u32; FUNCTION] {
 
 /// The Rust's handlers, as the rows that they would be.
 fn rust(file: &[u8], functions: &[[u32; FUNCTION]]) -> Vec<[u32; ROW]> {
-    let headers: Vec<_> = functions
-        .iter()
-        .map(|row| handlers::header(row[1], row))
-        .collect();
+    let headers: Vec<_> = functions.iter().map(|row| handlers::header(row[1], row)).collect();
     handlers::listed(file, &headers)
 }
 
@@ -67,12 +64,7 @@ fn handlers(run: &mut Run) -> Compared {
 
 /// The Rust's file of nothing but these sections.
 fn trailing(file: &[u8], start: usize, counts: SectionCounts) -> Result<BytecodeFile, String> {
-    let SectionCounts {
-        regexps,
-        storage,
-        cjs,
-        sources,
-    } = counts;
+    let SectionCounts { regexps, storage, cjs, sources } = counts;
     text(sections::trailing(&sections::Case {
         file,
         start,
@@ -109,11 +101,7 @@ fn parts(sections: Result<Sections, Refusal>) -> Result<Told, (u32, u32)> {
 
 /// The call itself on no bytes and no counts, with so many words lent, which held sevens; the words afterwards.
 fn in_c(words: usize) -> Result<(u64, Vec<u32>), Difference> {
-    let mut answer = sections::Case {
-        rows: &vec![7; words],
-        ..sections::NONE
-    }
-    .compare()?;
+    let mut answer = sections::Case { rows: &vec![7; words], ..sections::NONE }.compare()?;
     answer.table.truncate(words);
     Ok((answer.code, answer.table))
 }
@@ -129,21 +117,12 @@ fn sections(run: &mut Run) -> Compared {
         found("bytecode", empty(None)),
     ];
     let zeros = Some([0; 3]);
-    row(
-        run,
-        "no bytes, no counts: no sources, and no entries of storage and bytecode",
-    )
-    .rust(names(trailing(&[], 0, none)), Ok(listed))?
-    .ours(
-        parts(trailing_sections(&[], 0, none)),
-        Ok([zeros, zeros, zeros, None, zeros]),
-    )?;
+    row(run, "no bytes, no counts: no sources, and no entries of storage and bytecode")
+        .rust(names(trailing(&[], 0, none)), Ok(listed))?
+        .ours(parts(trailing_sections(&[], 0, none)), Ok([zeros, zeros, zeros, None, zeros]))?;
     let (given, rows) = in_c(20)?;
     row(run, "the same in C: mark 1 says absent")
-        .rust(
-            trailing(&[], 0, none).map(|file| file.sections.len()),
-            Ok(4),
-        )?
+        .rust(trailing(&[], 0, none).map(|file| file.sections.len()), Ok(4))?
         .ours((given, &rows[12..16]), (code(Ok(5)), &[0, 0, 0, 1]))?;
     let counts = SectionCounts { regexps: 1, ..none };
     let read = trailing(&[7; 8], 0, counts).map(|file| {
@@ -165,23 +144,15 @@ fn sections(run: &mut Run) -> Compared {
 /// The zeros of finding g.
 const ZEROS: usize = 256 << 20;
 
-const MOST: SectionCounts = SectionCounts {
-    regexps: u32::MAX,
-    storage: 0,
-    cjs: 0,
-    sources: None,
-};
+const MOST: SectionCounts = SectionCounts { regexps: u32::MAX, storage: 0, cjs: 0, sources: None };
 
 /// Finding g: the Rust asks for the memory of an entry for each byte.
 fn memory(run: &mut Run) -> Compared {
     let failed = format!("memory allocation of {} bytes failed", ZEROS * 8);
     let replayed = |side| bounded(&["parsing", "Zeros", side, &ZEROS.to_string()]);
-    row(
-        run,
-        "g: 2^32 - 1 regexps in 256 MiB of zeros, address space of 2 GB",
-    )
-    .rust(replayed("Rust"), End::Signal(ABORT, failed))?
-    .ours(replayed("ours"), End::Said("Err((3, 0))".into()))
+    row(run, "g: 2^32 - 1 regexps in 256 MiB of zeros, address space of 2 GB")
+        .rust(replayed("Rust"), End::Signal(ABORT, failed))?
+        .ours(replayed("ours"), End::Said("Err((3, 0))".into()))
 }
 
 /// `SIDE BYTES`: 2^32 - 1 regexps in so many zeros by one side, whose memory may be bounded.

@@ -18,9 +18,7 @@ pub fn soak(soak: &mut Soak) -> Compared {
     let many = "handlers, 2^32 + 704 rows, 704 lent";
     soak.case(many, file_of(4_294_968 * own), |_| past_counting())?;
     let (ones, all) = ([1, 0, 0, 0], "handlers of 2^32 - 1 functions");
-    soak.filled(all, (LIMIT, &ones), |file| {
-        read(file, &function(4, HAS), u32::MAX, 1)
-    })?;
+    soak.filled(all, (LIMIT, &ones), |file| read(file, &function(4, HAS), u32::MAX, 1))?;
     // In a file of ones every fourth byte has one handler, in one of 0xFF every count is 2^32 - 1.
     let size = size(FUNCTIONS * (own + row + 64), LIMIT + FUNCTIONS * 1024);
     for (name, piece, rows) in [
@@ -43,12 +41,7 @@ pub fn soak(soak: &mut Soak) -> Compared {
 }
 
 fn read(file: &[u8], functions: &[u32], count: u32, rows: usize) -> Result<String, Difference> {
-    let case = handlers::Case {
-        file,
-        functions,
-        count,
-        rows: &vec![7; rows * ROW],
-    };
+    let case = handlers::Case { file, functions, count, rows: &vec![7; rows * ROW] };
     case.compared()
 }
 

@@ -92,9 +92,7 @@ fn rust_strings(strings: &Strings, count: u32) -> Result<Vec<Text>, String> {
     let pairs: Vec<_> = strings.overflow.iter().map(|&pair| pair.into()).collect();
     let decoded = decode_string_table(count, &runs, strings.small, &pairs, strings.storage);
     let entries = text(decoded)?.into_iter();
-    Ok(entries
-        .map(|entry| (entry.value, entry.is_utf16, entry.is_identifier))
-        .collect())
+    Ok(entries.map(|entry| (entry.value, entry.is_utf16, entry.is_identifier)).collect())
 }
 
 /// The words of the rows: start, bytes, invalid, marks.
@@ -114,37 +112,23 @@ const fn entry(offset: u32, len: u32) -> u32 {
 /// Strings of no kind runs.
 fn strings<'a>(small: &'a [u32], overflow: &'a [[u32; 2]], storage: &'a [u8]) -> Strings<'a> {
     let kinds = &[];
-    Strings {
-        kinds,
-        small,
-        overflow,
-        storage,
-    }
+    Strings { kinds, small, overflow, storage }
 }
 
 /// Finding c: strings of one text that are not the same.
 fn texts(run: &mut Run) -> Compared {
     let small = [entry(0, 14), entry(14, 0)];
     let two = strings(&small, &[], b"<invalid utf8>");
-    row(
-        run,
-        "c: a string that reads `<invalid utf8>`, and one past the storage",
-    )
-    .rust(rust_strings(&two, 2), Ok(vec![plain("<invalid utf8>"); 2]))?
-    .ours(our_strings(&two, 2), Ok(vec![0, 14, 0, 0, 0, 0, 1, 0]))?;
+    row(run, "c: a string that reads `<invalid utf8>`, and one past the storage")
+        .rust(rust_strings(&two, 2), Ok(vec![plain("<invalid utf8>"); 2]))?
+        .ours(our_strings(&two, 2), Ok(vec![0, 14, 0, 0, 0, 0, 1, 0]))?;
     let text = "<invalid utf16>";
     let wide: Vec<u8> = text.encode_utf16().flat_map(u16::to_le_bytes).collect();
     let small = [entry(0, 15) | 1, entry(30, 0) | 1];
     let two = strings(&small, &[], &wide);
-    row(
-        run,
-        "c: a string that reads `<invalid utf16>`, and one past the storage",
-    )
-    .rust(
-        rust_strings(&two, 2),
-        Ok(vec![(text.into(), true, false); 2]),
-    )?
-    .ours(our_strings(&two, 2), Ok(vec![0, 30, 0, 1, 0, 0, 1, 1]))?;
+    row(run, "c: a string that reads `<invalid utf16>`, and one past the storage")
+        .rust(rust_strings(&two, 2), Ok(vec![(text.into(), true, false); 2]))?
+        .ours(our_strings(&two, 2), Ok(vec![0, 30, 0, 1, 0, 0, 1, 1]))?;
     let small = [entry(0, 1), entry(1, 3)];
     let two = strings(&small, &[], b"\xFF\xEF\xBF\xBD");
     row(run, "c: FF, and EF BF BD")
@@ -201,10 +185,7 @@ fn overflow(run: &mut Run) -> Compared {
 
 /// Finding l: runs of no strings and of no identifiers, and one string.
 fn kinds(run: &mut Run) -> Compared {
-    let one = Strings {
-        kinds: &[0, 1 << 31],
-        ..strings(&[0], &[], b"a")
-    };
+    let one = Strings { kinds: &[0, 1 << 31], ..strings(&[0], &[], b"a") };
     row(run, "l: runs 00000000 and 80000000, one string")
         .rust(rust_strings(&one, 1), Ok(vec![("".into(), false, true)]))?
         .ours(our_strings(&one, 1), Ok(vec![0, 0, 0, 2]))

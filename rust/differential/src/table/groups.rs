@@ -224,26 +224,13 @@ fn kind_runs(run: &mut Run) -> Compared {
             for strings in 0..=7 {
                 let small = &entries[..strings];
                 for count in [0, 1, 3, strings as u32, strings as u32 + 1, u32::MAX] {
-                    run.compare(&strings::Case {
-                        count,
-                        kinds,
-                        small,
-                        ..all
-                    })?;
+                    run.compare(&strings::Case { count, kinds, small, ..all })?;
                 }
             }
         }
     }
     let most = IDENTIFIER - 1;
-    let alphabet = [
-        0,
-        IDENTIFIER,
-        2,
-        most,
-        most - 1,
-        IDENTIFIER | most,
-        u32::MAX - 1,
-    ];
+    let alphabet = [0, IDENTIFIER, 2, most, most - 1, IDENTIFIER | most, u32::MAX - 1];
     for first in alphabet {
         for second in alphabet {
             for third in alphabet {
@@ -386,16 +373,9 @@ fn lent_rows(run: &mut Run) -> Compared {
 /// byte more than 2^30 is refused 1.
 fn long_storages(run: &mut Run) -> Compared {
     let mut random = run.random(6);
-    for len in [
-        300,
-        70_000,
-        (1 << 23) - 2,
-        (1 << 23) - 1,
-        1 << 23,
-        (1 << 23) + 100,
-        LIMIT,
-        LIMIT + 1,
-    ] {
+    for len in
+        [300, 70_000, (1 << 23) - 2, (1 << 23) - 1, 1 << 23, (1 << 23) + 100, LIMIT, LIMIT + 1]
+    {
         let mut storage = vec![0; len];
         let (begin, end) = (len.min(600), len - len.min(600));
         let edges = [0..begin, end..len];
@@ -449,14 +429,7 @@ fn parts(run: &mut Run) -> Compared {
             }
         }
         let rows: Vec<u32> = (0..4).flat_map(|i| [i, 2, i & 1, 0]).collect();
-        let far = [
-            1 << 30,
-            1 << 32,
-            1 << 62,
-            (1 << 62) + 1,
-            1 << 63,
-            usize::MAX,
-        ];
+        let far = [1 << 30, 1 << 32, 1 << 62, (1 << 62) + 1, 1 << 63, usize::MAX];
         for words in 0..=rows.len() {
             for index in (0..=5).chain(far) {
                 run.compare(&part(&storage, &rows[..words], index))?;
@@ -476,9 +449,7 @@ fn parts(run: &mut Run) -> Compared {
 /// All words of the longest file at once, and as many from one byte on, of which the last is cut.
 fn whole_file(run: &mut Run) -> Compared {
     let mut random = run.random(7);
-    let input: Vec<u8> = (0..LIMIT / 8)
-        .flat_map(|_| random.word().to_le_bytes())
-        .collect();
+    let input: Vec<u8> = (0..LIMIT / 8).flat_map(|_| random.word().to_le_bytes()).collect();
     for op in OPS {
         let all = LIMIT / 4 / op.width();
         for (at, count) in [(0, all), (1, all)] {
@@ -521,16 +492,11 @@ fn most_strings(run: &mut Run) -> Compared {
             pairs.extend([(word >> 8) as u32 % (16 << 20), (word >> 40) as u32 % 600]);
             return word as u32 | 0xFF00_0000;
         }
-        small(
-            word >> 6 & 1 == 1,
-            (word >> 8) as u32 % (1 << 23),
-            (word >> 32) as u32 % 40,
-        )
+        small(word >> 6 & 1 == 1, (word >> 8) as u32 % (1 << 23), (word >> 32) as u32 % 40)
     };
     let entries: Vec<u32> = (0..strings).map(|_| entry()).collect();
-    let kinds: Vec<u32> = (0..strings / 50)
-        .map(|_| random.word() as u32 & (IDENTIFIER | 127))
-        .collect();
+    let kinds: Vec<u32> =
+        (0..strings / 50).map(|_| random.word() as u32 & (IDENTIFIER | 127)).collect();
     for words in [pairs.len(), pairs.len() - 2] {
         run.compare(&strings::Case {
             count: u32::MAX,
@@ -646,29 +612,14 @@ pub fn any_case(random: &mut Random) -> Made {
         0 => random.below(strings * ROW + 1),
         _ => strings * ROW + random.below(9),
     };
-    Made {
-        count,
-        kinds,
-        entries,
-        pairs,
-        storage,
-        lent,
-    }
+    Made { count, kinds, entries, pairs, storage, lent }
 }
 
 fn any_storage(random: &mut Random) -> Vec<u8> {
     let most = random.pick(&[0, 3, 40, 300]);
     let len = random.below(most + 1);
-    let letters = [
-        'a',
-        '<',
-        '\u{E9}',
-        '\u{20AC}',
-        '\u{D7FF}',
-        '\u{FFFD}',
-        '\u{10000}',
-        '\u{10FFFF}',
-    ];
+    let letters =
+        ['a', '<', '\u{E9}', '\u{20AC}', '\u{D7FF}', '\u{FFFD}', '\u{10000}', '\u{10FFFF}'];
     let mut storage = Vec::with_capacity(len + 4);
     let flavour = random.below(5);
     while storage.len() < len {
@@ -676,14 +627,10 @@ fn any_storage(random: &mut Random) -> Vec<u8> {
         match flavour {
             0 => storage.push(random.byte()),
             1 => storage.extend(letter.encode_utf8(&mut [0; 4]).bytes()),
-            2 => storage.extend(bytes_of(
-                &[0xDC00_D800, 0xD800_DC00, 0xDFFF_DBFF][random.below(3)..][..1],
-            )),
+            2 => storage
+                .extend(bytes_of(&[0xDC00_D800, 0xD800_DC00, 0xDFFF_DBFF][random.below(3)..][..1])),
             3 => storage.extend(
-                letter
-                    .encode_utf16(&mut [0; 2])
-                    .iter()
-                    .flat_map(|unit| unit.to_le_bytes()),
+                letter.encode_utf16(&mut [0; 2]).iter().flat_map(|unit| unit.to_le_bytes()),
             ),
             _ => storage
                 .push(random.pick(&[0xC3, 0xA9, 0xE2, 0x82, 0xAC, 0xF0, 0x9F, 0xED, 0xA0, b'a'])),

@@ -53,11 +53,7 @@ fn strings(soak: &mut Soak) -> Compared {
     let size = size(COUNT * (4 + 4 + 8 + 16), COUNT * 400);
     for (name, pairs, lent) in [
         ("strings all by pairs, runs empty", COUNT, COUNT * ROW),
-        (
-            "strings all by pairs, the last missing",
-            COUNT - 1,
-            COUNT * ROW,
-        ),
+        ("strings all by pairs, the last missing", COUNT - 1, COUNT * ROW),
         ("strings all by pairs, a row short", COUNT, COUNT * ROW - 1),
     ] {
         let mut random = soak.random(2);
@@ -66,9 +62,7 @@ fn strings(soak: &mut Soak) -> Compared {
                 count: u32::MAX,
                 kinds: &[0, 1 << 31].repeat(COUNT / 2),
                 small: &LONG.repeat(COUNT / 2),
-                overflow: &(0..2 * pairs)
-                    .map(|_| random.below(900) as u32)
-                    .collect::<Vec<_>>(),
+                overflow: &(0..2 * pairs).map(|_| random.below(900) as u32).collect::<Vec<_>>(),
                 storage: &[b'a'; 1_000],
                 lent,
             };
@@ -100,9 +94,7 @@ fn most(soak: &mut Soak) -> Compared {
             }
         };
         let ours = case.ours()?;
-        rows_are(&ours.table[..case.lent], ROW, |i, row| {
-            row == [3, 4, 0, marks(i)]
-        })?;
+        rows_are(&ours.table[..case.lent], ROW, |i, row| row == [3, 4, 0, marks(i)])?;
         case.told(ours.code, Ok(COUNT as u32))
     })
 }
@@ -110,16 +102,11 @@ fn most(soak: &mut Soak) -> Compared {
 /// Up to 500 strings, most of them long, in runs most of which are empty; and tables read with counts as large.
 fn any(random: &mut Random) -> Compared {
     let count = random.below(500);
-    let small: Vec<u32> = (0..count)
-        .map(|_| random.pick(&LONG) | random.word() as u32 & 0xFF_FFFF)
-        .collect();
-    let kinds: Vec<u32> = (0..count)
-        .map(|_| random.word() as u32 & 0x8000_0001)
-        .collect();
+    let small: Vec<u32> =
+        (0..count).map(|_| random.pick(&LONG) | random.word() as u32 & 0xFF_FFFF).collect();
+    let kinds: Vec<u32> = (0..count).map(|_| random.word() as u32 & 0x8000_0001).collect();
     let pairs = count.saturating_sub(random.below(3));
-    let overflow = (0..2 * pairs)
-        .map(|_| random.below(300) as u32)
-        .collect::<Vec<_>>();
+    let overflow = (0..2 * pairs).map(|_| random.below(300) as u32).collect::<Vec<_>>();
     let case = Strings {
         count: random.pick(&[u32::MAX, count as u32]),
         kinds: &kinds,

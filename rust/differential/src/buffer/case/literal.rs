@@ -112,10 +112,6 @@ impl Compare for Case<'_> {
 
 /// `TAG CURSOR BYTES`.
 pub fn replay(words: &mut Words) -> Result<String, Difference> {
-    let case = Case {
-        tag: words.number()?,
-        at: words.number()?,
-        input: &words.bytes()?,
-    };
+    let case = Case { tag: words.number()?, at: words.number()?, input: &words.bytes()? };
     replayed(&case, words)
 }

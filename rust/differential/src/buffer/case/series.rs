@@ -23,13 +23,7 @@ pub struct Case<'a> {
 }
 
 pub fn series(buffer: &[u8], offset: u32, count: u32, [kinds, payloads]: [usize; 2]) -> Case<'_> {
-    Case {
-        buffer,
-        offset,
-        count,
-        kinds,
-        payloads,
-    }
+    Case { buffer, offset, count, kinds, payloads }
 }
 
 /// The calls that read it: from the buffer itself, or from a pair of which it is the keys or the values.
@@ -71,11 +65,7 @@ impl Case<'_> {
         let (k, k_len, p, p_len) = (kinds, self.kinds, payloads, self.payloads);
         // All but 0 names the keys.
         let (keys, values, yes) = match call {
-            Keys => (
-                self.buffer,
-                other,
-                [1, 2, 1 << 31, u32::MAX][count as usize % 4],
-            ),
+            Keys => (self.buffer, other, [1, 2, 1 << 31, u32::MAX][count as usize % 4]),
             Series | Values => (other, self.buffer, 0),
         };
         let [(a, a_len), (b, b_len)] = [keys, values].map(|s| (s.as_ptr(), s.len()));
@@ -93,11 +83,7 @@ impl Case<'_> {
             let mut kinds = lent(Vec::new(), self.kinds);
             let mut payloads = lent(Vec::new(), self.payloads);
             let code = self.make(call, other, kinds.as_mut_ptr(), payloads.as_mut_ptr());
-            Answer {
-                code,
-                kinds,
-                payloads,
-            }
+            Answer { code, kinds, payloads }
         });
         match one == keys && one == values {
             true => Ok(one),
@@ -117,11 +103,7 @@ impl Case<'_> {
     /// What the Rust answers, and what it doesn't say: how many bytes the values take (with one fewer it refuses), and
     /// how many values come before the cut (one more it refuses). The limit and the lent tables are docs/FORMAT.md's.
     pub fn expected(&self, guess: u32) -> Expected {
-        let refused = |number, place| Expected {
-            number,
-            place,
-            ..Expected::default()
-        };
+        let refused = |number, place| Expected { number, place, ..Expected::default() };
         let end = self.buffer.len();
         if end > LIMIT {
             return refused(1, 0);
@@ -151,12 +133,7 @@ impl Case<'_> {
             }
         };
         let (kinds, payloads) = values.iter().map(told).unzip();
-        Expected {
-            number: 0,
-            place: used,
-            kinds,
-            payloads,
-        }
+        Expected { number: 0, place: used, kinds, payloads }
     }
 
     /// Compares beside another buffer, which is not looked at.

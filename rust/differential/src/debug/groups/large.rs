@@ -97,12 +97,7 @@ fn lent(run: &mut Run, random: &mut Random, sizes: &Sizes) -> Compared {
 
 pub fn many(run: &mut Run) -> Compared {
     let mut random = run.random(16);
-    let sizes = |strings, scopes, callees, order| Sizes {
-        strings,
-        scopes,
-        callees,
-        order,
-    };
+    let sizes = |strings, scopes, callees, order| Sizes { strings, scopes, callees, order };
     let some = [
         sizes(70_000, 0, 0, Order::Rising),
         sizes(300, 20_000, 0, Order::Rising),

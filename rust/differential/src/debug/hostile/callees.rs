@@ -17,9 +17,7 @@ const ORDERS: [Order; 7] = [
     ("rising", |_, i, _| i as u32),
     ("all equal", |_, _, _| 7),
     ("two in turn", |_, i, _| [14, 7][i % 2]),
-    ("rising, the last ones first", |_, i, most| {
-        (i + most / 16) as u32 % (most / 8) as u32
-    }),
+    ("rising, the last ones first", |_, i, most| (i + most / 16) as u32 % (most / 8) as u32),
     ("random", |random, _, most| random.below(most) as u32),
     ("spread over 32 bits", |random, _, _| random.word() as u32),
     ("falling", |_, i, most| (most - i) as u32),

@@ -98,11 +98,7 @@ pub fn right(case: &Case) -> Result<Vec<[u32; ROW]>, Refusal> {
 impl Case<'_> {
     /// A refusal, which leaves all that is lent as it was.
     pub fn refused(&self, refusal: Refusal) -> Answer {
-        Answer {
-            code: case::code(Err(refusal)),
-            total: LENT,
-            rows: copied(self.rows),
-        }
+        Answer { code: case::code(Err(refusal)), total: LENT, rows: copied(self.rows) }
     }
 }
 

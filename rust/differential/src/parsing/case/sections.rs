@@ -17,13 +17,8 @@ pub const ROW: usize = 4;
 pub const ROWS: usize = 5;
 
 /// The sections by their names in the Rust, in the order of their rows.
-const NAMES: [&str; ROWS] = [
-    "regexp_table",
-    "regexp_storage",
-    "cjs_module_table",
-    "function_source_table",
-    "bytecode",
-];
+const NAMES: [&str; ROWS] =
+    ["regexp_table", "regexp_storage", "cjs_module_table", "function_source_table", "bytecode"];
 
 /// One call. `rows` are the words lent, as they are before it.
 #[derive(Clone, Copy)]
@@ -82,10 +77,7 @@ fn published(case: &Case) -> Result<Found, Refusal> {
     assert_eq!(rows[3][3], case.sources.is_none().into());
     let regexps = file.reg_exp_table.iter();
     let pairs = regexps.map(|entry| (entry.offset, entry.length)).collect();
-    Ok((
-        rows,
-        [pairs, file.cjs_module_table, file.function_source_table],
-    ))
+    Ok((rows, [pairs, file.cjs_module_table, file.function_source_table]))
 }
 
 /// What is right: the sections by the Rust, 1 and 4 by docs/FORMAT.md.

@@ -58,15 +58,8 @@ fn worked(run: &mut Run) -> Compared {
 }
 
 /// Places that no file here has.
-const FAR: [u32; 7] = [
-    LIMIT as u32,
-    u32::MAX - 4,
-    u32::MAX - 3,
-    u32::MAX - 2,
-    u32::MAX - 1,
-    u32::MAX,
-    1 << 31,
-];
+const FAR: [u32; 7] =
+    [LIMIT as u32, u32::MAX - 4, u32::MAX - 3, u32::MAX - 2, u32::MAX - 1, u32::MAX, 1 << 31];
 
 /// Every length to 68, every place in it and behind it, and every count to 6 there.
 fn places(run: &mut Run) -> Compared {
@@ -122,22 +115,13 @@ fn tables(run: &mut Run) -> Compared {
         let lent = any_words(&mut random, (total + 2) * ROW);
         for words in (0..=lent.len()).rev() {
             let rows = &lent[..words];
-            let all = Case {
-                file: &made.file,
-                functions,
-                count,
-                rows,
-            };
+            let all = Case { file: &made.file, functions, count, rows };
             run.compare(&all)?;
         }
         for words in (0..functions.len()).rev() {
             for count in [count, random.below(count as usize + 2) as u32, u32::MAX] {
-                let fewer = Case {
-                    file: &made.file,
-                    functions: &functions[..words],
-                    count,
-                    rows: &lent,
-                };
+                let fewer =
+                    Case { file: &made.file, functions: &functions[..words], count, rows: &lent };
                 run.compare(&fewer)?;
             }
         }
@@ -188,12 +172,8 @@ pub fn past_counting() -> Result<String, Difference> {
     assert_eq!(published(&file, &row).len(), 1000);
     const COUNT: u32 = 4_294_968;
     let lent = vec![7; 704 * ROW];
-    let many = Case {
-        file: &file,
-        functions: &row.repeat(COUNT as usize),
-        count: COUNT,
-        rows: &lent,
-    };
+    let many =
+        Case { file: &file, functions: &row.repeat(COUNT as usize), count: COUNT, rows: &lent };
     let answer = many.same(many.ours(), &many.refused((4, 0)))?;
     Ok(many.said(&answer, None))
 }
@@ -233,11 +213,7 @@ pub fn any(random: &mut Random) -> Made {
             file[at..at + 4].copy_from_slice(&handlers.to_le_bytes());
         }
     }
-    Made {
-        file,
-        functions,
-        count,
-    }
+    Made { file, functions, count }
 }
 
 /// Two calls on functions and a file of any kind.

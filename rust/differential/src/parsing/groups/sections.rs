@@ -29,21 +29,10 @@ fn worked(run: &mut Run) -> Compared {
     let mut random = run.random(11);
     let rows = lent(&mut random);
     // Length 10, start 8, storage 1, other counts 0: refused 2.
-    let padded = Case {
-        file: &[0; 10],
-        start: 8,
-        storage: 1,
-        rows: &rows,
-        ..NONE
-    };
+    let padded = Case { file: &[0; 10], start: 8, storage: 1, rows: &rows, ..NONE };
     assert_eq!(run.compare(&padded)?.code, code(Err((2, 0))));
     // An empty first section at 9 is 3 bytes of padding.
-    let empty = Case {
-        file: &[0; 12],
-        start: 9,
-        storage: 0,
-        ..padded
-    };
+    let empty = Case { file: &[0; 12], start: 9, storage: 0, ..padded };
     assert_eq!(run.compare(&empty)?.table[..4], [9, 3, 0, 0]);
     Ok(())
 }
@@ -79,25 +68,10 @@ fn small(run: &mut Run) -> Compared {
 }
 
 /// Counts that no file here has.
-const MANY: [u32; 8] = [
-    1 << 27,
-    1 << 28,
-    1 << 29,
-    1 << 30,
-    1 << 31,
-    u32::MAX - 7,
-    u32::MAX - 1,
-    u32::MAX,
-];
+const MANY: [u32; 8] =
+    [1 << 27, 1 << 28, 1 << 29, 1 << 30, 1 << 31, u32::MAX - 7, u32::MAX - 1, u32::MAX];
 
-const FAR: [usize; 6] = [
-    LIMIT,
-    LIMIT + 1,
-    1 << 32,
-    1 << 63,
-    usize::MAX - 3,
-    usize::MAX,
-];
+const FAR: [usize; 6] = [LIMIT, LIMIT + 1, 1 << 32, 1 << 63, usize::MAX - 3, usize::MAX];
 
 /// Small counts with one that no file has, in each place; and starts that none has.
 fn large(run: &mut Run) -> Compared {
@@ -163,12 +137,7 @@ fn too_long(run: &mut Run) -> Compared {
     let rows = [7; ROWS * ROW];
     for start in [0, 1, LIMIT, LIMIT + 1, LIMIT + 2] {
         for words in [0, ROWS * ROW] {
-            let long = Case {
-                file: &file,
-                start,
-                rows: &rows[..words],
-                ..NONE
-            };
+            let long = Case { file: &file, start, rows: &rows[..words], ..NONE };
             run.compare(&long)?;
         }
     }
@@ -195,15 +164,7 @@ fn longest(run: &mut Run) -> Compared {
         (1, LIMIT as u32, 0),
     ] {
         for sources in [None, Some(0), Some(1)] {
-            let long = Case {
-                file: &file,
-                start,
-                storage,
-                cjs,
-                sources,
-                rows: &rows,
-                ..NONE
-            };
+            let long = Case { file: &file, start, storage, cjs, sources, rows: &rows, ..NONE };
             run.compare(&long)?;
         }
     }
@@ -225,16 +186,7 @@ pub fn any<'a>(random: &mut Random, file: &'a [u8], rows: &'a [u32]) -> Case<'a>
     };
     let (regexps, storage, cjs) = (count(4), count(20), count(4));
     let sources = Some(count(4)).filter(|_| random.below(3) > 0);
-    Case {
-        file,
-        start,
-        regexps,
-        storage,
-        cjs,
-        sources,
-        aside: random.word() as u32,
-        rows,
-    }
+    Case { file, start, regexps, storage, cjs, sources, aside: random.word() as u32, rows }
 }
 
 /// One call on a file of any kind.

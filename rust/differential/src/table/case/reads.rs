@@ -29,17 +29,11 @@ const U32_READERS: [Reader; 2] = [parse_u32_vec, |reader, count| {
     let kinds = parse_string_kinds(reader, count)?;
     let word = |identifier, count| (identifier as u32) << 31 | count;
     let words = kinds.iter();
-    Ok(words
-        .map(|run| word(run.kind == StringKindType::Identifier, run.count))
-        .collect())
+    Ok(words.map(|run| word(run.kind == StringKindType::Identifier, run.count)).collect())
 }];
 const PAIR_READERS: [Reader; 4] = [
     |reader, count| flat(parse_pair_table(reader, count)?, |pair| pair.into()),
-    |reader, count| {
-        flat(parse_overflow_string_table(reader, count)?, |pair| {
-            pair.into()
-        })
-    },
+    |reader, count| flat(parse_overflow_string_table(reader, count)?, |pair| pair.into()),
     |reader, count| {
         let entries = parse_table_entries(reader, count)?;
         flat(entries, |entry| [entry.offset, entry.length])
@@ -82,13 +76,7 @@ pub struct Case<'a> {
 }
 
 pub fn read(op: Op, input: &[u8], at: usize, count: u32, lent: usize) -> Case<'_> {
-    Case {
-        op,
-        input,
-        at,
-        count,
-        lent,
-    }
+    Case { op, input, at, count, lent }
 }
 
 #[derive(PartialEq, Eq)]
@@ -107,11 +95,7 @@ impl Case<'_> {
         let (s, s_len) = (self.input.as_ptr(), self.input.len());
         let mut at = self.at;
         let code = meter::call(|| unsafe { call(s, s_len, &mut at, self.count, table, self.lent) });
-        Answer {
-            number: number(code),
-            place: place(code),
-            at,
-        }
+        Answer { number: number(code), place: place(code), at }
     }
 
     /// What docs/FORMAT.md refuses before it reads, where the Rust has no such refusal: its reader has no limit, can't
@@ -123,11 +107,7 @@ impl Case<'_> {
             _ if self.lent / self.op.width() < self.count as usize => 4,
             _ => return None,
         };
-        Some(Answer {
-            number,
-            place: 0,
-            at: self.at,
-        })
+        Some(Answer { number, place: 0, at: self.at })
     }
 
     /// What one of the Rust's readers answers, and the words it read. Refused, it stands after the last whole word:
@@ -219,12 +199,7 @@ impl Compare for Case<'_> {
 
     fn replay(&self) -> Option<String> {
         let (op, at, count, lent) = (self.op, self.at, self.count, self.lent);
-        let words = || {
-            format!(
-                "table {op:?} {at} {count} {lent} {}",
-                bytes_word(self.input)
-            )
-        };
+        let words = || format!("table {op:?} {at} {count} {lent} {}", bytes_word(self.input));
         printed(self.input, &[], &[lent]).then(words)
     }
 }

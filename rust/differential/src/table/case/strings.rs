@@ -205,11 +205,7 @@ pub struct Part<'a> {
 }
 
 pub fn part<'a>(storage: &'a [u8], rows: &'a [u32], index: usize) -> Part<'a> {
-    Part {
-        storage,
-        rows,
-        index,
-    }
+    Part { storage, rows, index }
 }
 
 /// Start and length of the part that a row names, by docs/FORMAT.md: the Rust has no such call.
