@@ -11,9 +11,8 @@ use Rattle.hbc_function_record.specs.declared.Layout.{Layout}
 use Rattle.hbc_function_record.specs.declared.Record.{Record}
 use Rattle.hbc_function_header.specs.declared.Reading.the-variants as reading
 use Rattle.hbc_io.specs.Answer.{Answer, gives, refuses, asked}
-use Rattle.hbc_function_header.specs.Header.{functionAt}
+use Rattle.hbc_function_header.specs.Header.{functionAt, rowOf, rowInto}
 use Rattle.hbc_function_record.specs.Row.{width}
-use Rattle.hbc_function_header.specs.Header.{rowOf, rowInto}
 use Rattle.hbc_function.specs.declared.Refreshed.the-variants as refreshed
 use Rattle.hbc_function.specs.Table.{scan, all, readAnswer, ReadFunctions}
 use Rattle.hbc_function.specs.Refresh.{refreshAnswer, RefreshFunctions}

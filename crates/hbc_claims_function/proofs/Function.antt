@@ -14,15 +14,13 @@ use Rattle.hbc_function_record.specs.declared.Layout.{Layout}
 use Rattle.hbc_function_record.specs.declared.Layout.the-variants as lay
 use Rattle.hbc_function_record.specs.declared.Legacy.{Legacy}
 use Rattle.hbc_function_record.specs.declared.Modern.{Modern}
-use Rattle.hbc_function_record.specs.declared.Record.{Record}
 use Rattle.hbc_function_record.specs.declared.Record.the-variants as rec
 use Rattle.hbc_function_record.specs.declared.Link.{Link}
 use Rattle.hbc_function_record.specs.declared.Link.the-variants as link
 use Rattle.hbc_function_header.specs.declared.Ground.{Ground}
 use Rattle.hbc_function_header.specs.declared.Ground.the-variants as ground
-use Rattle.hbc_function_header.specs.declared.Where.{Where}
 use Rattle.hbc_function_header.specs.declared.Where.the-variants as wh
-use Rattle.hbc_io.specs.Answer.{Answer, gives, asked}
+use Rattle.hbc_io.specs.Answer.{gives, asked}
 use Rattle.hbc_function_record.specs.Record.{sizeOf, largeOf, inlineOf, largeAt, linkOf, legacyLarge, modernLarge}
 use Rattle.hbc_function_header.specs.Header.{headerAt, groundBy, groundOf, groundAt, whereOf, whereAt, found, recordAt, functionAt}
 use Rattle.hbc_function_header.specs.Meets.{overlap, groundMeets, meets}

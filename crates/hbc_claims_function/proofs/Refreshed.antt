@@ -14,8 +14,7 @@ use Rattle.hbc_function_record.specs.declared.Record.{Record}
 use Rattle.hbc_function_header.specs.declared.Reading.{Reading}
 use Rattle.hbc_function_header.specs.declared.Reading.the-variants as reading
 use Rattle.hbc_io.specs.Answer.{Answer, gives, asked}
-use Rattle.hbc_function_header.specs.Header.{saysReading}
-use Rattle.hbc_function_header.specs.Header.{functionAt}
+use Rattle.hbc_function_header.specs.Header.{saysReading, functionAt}
 use Rattle.hbc_function_record.specs.Row.{width}
 use Rattle.hbc_function_header.specs.Meets.{meets}
 use Rattle.hbc_function.specs.declared.Refreshed.{Refreshed}

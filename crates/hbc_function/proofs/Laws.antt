@@ -1,5 +1,5 @@
 -- The laws of scans and rows, over any functions and any choice among them.
-use Prim.Native.Nat.{ℕ, zero, suc, _+_, _*_, _-_, _≤_, _<_}
+use Prim.Native.Nat.{ℕ, suc, _+_, _*_, _-_, _≤_, _<_}
 use mathlib.Core.Path.{_≡_, refl, ap, sym, _∙_}
 use mathlib.Core.List.{List, [], append-assoc}
 use mathlib.Core.Bool.{Bool, true, false, cond}

@@ -1,7 +1,7 @@
 -- The cases of Header's definitions, each from plain facts on numbers.
 use Prim.Native.Nat.{ℕ, _+_, _*_, _^_, _≤_, _<_}
 use mathlib.Core.Path.{_≡_, refl, ap, sym, _∙_}
-use mathlib.Core.List.{List, [], _++_, append-nil}
+use mathlib.Core.List.{List, _++_, append-nil}
 use mathlib.Core.Bool.{Bool, true, false, cond}
 use native.Mathlib.Omega.{arith}
 use native.Mathlib.Nat.{zero-mul}
@@ -9,10 +9,8 @@ use lib.ListN.{length, drop-of-length-le}
 use lib.Seq.{sets, sets-eq}
 use lib.Dec.{ltb, eqb}
 use borrow.Author.Tests.{le-ltb, lt-ltb, ltb-false, eq-eqb, ne-eqb}
-use Rattle.hbc_bits.specs.Bits.{leAt}
-use Rattle.hbc_io.specs.Outcome.{limit, refusalAt}
-use Rattle.hbc_io.specs.declared.Refusal.{Refusal}
-use Rattle.hbc_io.specs.Answer.{Answer, gives, refuses, refusedAt}
+use Rattle.hbc_io.specs.Outcome.{limit}
+use Rattle.hbc_io.specs.Answer.{Answer, gives, refusedAt}
 use Rattle.hbc_io.specs.Lends.{below}
 use Rattle.hbc_io.specs.Plain.{wordAt}
 use Rattle.hbc_io.proofs.Exits.{reached}

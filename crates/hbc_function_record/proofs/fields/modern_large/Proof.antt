@@ -1,5 +1,5 @@
-use mathlib.Core.Path.{_∙_, ap}
-use Prim.Native.Nat.{ℕ, _+_, _*_, _/_}
+use mathlib.Core.Path.{_∙_}
+use Prim.Native.Nat.{_+_, _*_, _/_}
 use native.Mathlib.Omega.{arith}
 use Rattle.hbc_io.proofs.Plains.{word-there}
 use Rattle.hbc_function_record.specs.Record.{modernLarge}
