@@ -21,4 +21,4 @@ use Rattle.hbc_claims.specs.Cases.{cases}
 pub hold : All cases
 unfolding readFunction functionAt recordAt whereAt whereOf groundOf inlineOf largeAt flagsOf placeOf linkOf legacyOf modernOf legacyLarge modernLarge legacyPlace modernPlace leAt field overflowed below choose decodeAnswer lesser scan lacksPair rowOf rowWith rowFor entryOf bytesOf longOne pairsTaken pairTaken pairAt kindOf runKind movedOn heldAt holding entryAt putRow putRows seriesAnswer filled valueAt after step runAt headAt tagAt plainAt widthOf literalOf lebBytes
 hold =
-    (refl, (refl, (refl, (or-shifted 1 24 32 (lit< tt), (refl, (refl, (refl, (refl, ((refl, refl), ((refl, refl), ((refl, refl), ((refl, refl, refl), ((refl, refl, refl), (refl, (refl, (refl, tt))))))))))))))))
+    (refl, (refl, (refl, (or-shifted 1 24 32 (lit< tt), (refl, (refl, (refl, (refl, ((refl, refl), ((refl, refl), ((refl, refl), ((refl, refl), ((refl, refl), (refl, (refl, (refl, tt))))))))))))))))

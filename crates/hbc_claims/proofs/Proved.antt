@@ -53,14 +53,11 @@ use Rattle.hbc_claims_debug.proofs.Left as r-debug
 use Rattle.hbc_claims_debug.proofs.Unique as u-debug
 use Rattle.hbc_claims_c.proofs.Left as r-c
 use Rattle.hbc_claims_c.proofs.Unique as u-c
-use Rattle.hbc_claims.specs.Theorems.{Worked, Unique, AsFresh, CountedLeft, CursorLeft, DebugRead, Edited, Exact, ExportedLeft, HandlersRead, High, Meets, ObjectRead, Packed, Reads, Refreshes, SectionsRead, StringsRead, TableRead, TablesLeft, Whole}
+use Rattle.hbc_claims.specs.Theorems.{Unique, Theorems, AsFresh, CountedLeft, CursorLeft, DebugRead, Edited, Exact, ExportedLeft, HandlersRead, High, Meets, ObjectRead, Packed, Reads, Refreshes, SectionsRead, StringsRead, TableRead, TablesLeft, Whole}
 use Rattle.hbc_claims.proofs.Cases.{hold}
 use Rattle.hbc_claims.proofs.Unique as u-listing
 
-pub worked : Worked
-worked = hold
-
-pub unique : Unique
+unique : Unique
 unique = record {
   cursor = u-io.unique;
   reader = u-reader.unique;
@@ -73,7 +70,7 @@ unique = record {
   exported = u-c.unique;
 }
 
-pub as-fresh : {a b : List ℕ} {layout : Layout} {start count low high : ℕ} {t t₁ t₂ t₃ : List ℕ} {r : Reading} {q : Refreshed} → Edited a b layout start count low high t t₁
+as-fresh : {a b : List ℕ} {layout : Layout} {start count low high : ℕ} {t t₁ t₂ t₃ : List ℕ} {r : Reading} {q : Refreshed} → Edited a b layout start count low high t t₁
     → ReadFunctions b layout start count t r t₂ → RefreshFunctions b layout start count low high t₁ q t₃ → AsFresh r q t₁ t₂ t₃
 as-fresh {layout = layout} {start = start} {count = count} v f g =
     let d = fresh.refreshed-as-fresh (v .same) layout start count (v .read) (v .valid .0) (v .valid .1) f g in
@@ -83,11 +80,11 @@ as-fresh {layout = layout} {start = start} {count = count} v f g =
       refused = λ x e. d .when-refused x e .1;
     }
 
-pub refreshes : {s : List ℕ} {layout : Layout} {start count low high k : ℕ} {t t′ : List ℕ} → RefreshFunctions s layout start count low high t (refreshed.Done k) t′
+refreshes : {s : List ℕ} {layout : Layout} {start count low high k : ℕ} {t t′ : List ℕ} → RefreshFunctions s layout start count low high t (refreshed.Done k) t′
     → Refreshes s layout start count low high t k t′
 refreshes v = let w = rewritten v in record { rows = w .met; others = w .unmet; behind = w .behind; long = w .long; counts = w .counts }
 
-pub met : (s : List ℕ) (layout : Layout) (start low high i : ℕ) → Meets s layout start low high i
+met : (s : List ℕ) (layout : Layout) (start low high i : ℕ) → Meets s layout start low high i
 met s layout start low high i = record {
   own = meeting.meets-own s layout start low high i;
   large = meeting.meets-large s layout start low high i;
@@ -95,10 +92,10 @@ met s layout start low high i = record {
   shared = λ a n j v. meeting.byte-shares v;
 }
 
-pub reads : {s : List ℕ} {layout : Layout} {start count : ℕ} {t t′ : List ℕ} → ReadFunctions s layout start count t reading.Read t′ → Reads s layout start count t t′
+reads : {s : List ℕ} {layout : Layout} {start count : ℕ} {t t′ : List ℕ} → ReadFunctions s layout start count t reading.Read t′ → Reads s layout start count t t′
 reads v = (filled v .rows, filled v .behind)
 
-pub cursor-left : (s : List ℕ) (c : Cursor) (k : Refusal) (n : Cursor) → CursorLeft s c k n
+cursor-left : (s : List ℕ) (c : Cursor) (k : Refusal) (n : Cursor) → CursorLeft s c k n
 cursor-left s c k n = record {
   number = r-io.number-left s c;
   plain = r-io.plain-left s c;
@@ -112,7 +109,7 @@ cursor-left s c k n = record {
   prefix = r-io.prefix-left s c;
 }
 
-pub tables-left : (k : Refusal) → TablesLeft k
+tables-left : (k : Refusal) → TablesLeft k
 tables-left k = record {
   table = λ width s c count t t′ n. r-table.table-left width s c count t t′ k n;
   strings = λ count kinds small overflow storage t t′ v. v .leaves;
@@ -127,7 +124,7 @@ tables-left k = record {
   names = r-debug.left .strings;
 }
 
-pub exported-left : (s : List ℕ) (at r at′ : ℕ) → (r ≡ 0 → ⊥) → ExportedLeft s at r at′
+exported-left : (s : List ℕ) (at r at′ : ℕ) → (r ≡ 0 → ⊥) → ExportedLeft s at r at′
 exported-left s at r at′ h = record {
   seek = r-c.hbc-seek s at h;
   align = r-c.hbc-align s at h;
@@ -143,7 +140,7 @@ exported-left s at r at′ h = record {
   debug = λ offset t held. r-c.hbc-debug s offset t held h;
 }
 
-pub counted-left : (s : List ℕ) (r : ℕ) → High r → CountedLeft s r
+counted-left : (s : List ℕ) (r : ℕ) → High r → CountedLeft s r
 counted-left s r h = record {
   functions = λ l start count t. r-c.hbc-functions l s start t h count;
   refresh = λ l start count low high t. r-c.hbc-refresh l s start t h count low high;
@@ -154,7 +151,7 @@ counted-left s r h = record {
   sections = λ start regexps storage cjs given sources t. r-c.hbc-sections s start regexps storage cjs given sources t h;
 }
 
-pub exact : (bs : List ℕ) → Exact bs
+exact : (bs : List ℕ) → Exact bs
 exact bs = record {
   unsigned = leb.unsigned-kept bs;
   unsigned-only = leb.unsigned-only bs;
@@ -164,13 +161,13 @@ exact bs = record {
   nine-signed = leb.nine-signed bs;
 }
 
-pub packing : (s : List ℕ) (at i : ℕ) → Packed s at i
+packing : (s : List ℕ) (at i : ℕ) → Packed s at i
 packing s at i = record { or-ed = packs.or-ed; not-added = packs.not-added; large = λ layout. packs.large s layout at i }
 
-pub whole : (s : List ℕ) (k : ℕ) → Whole s k
+whole : (s : List ℕ) (k : ℕ) → Whole s k
 whole s k = record { tags = tags.enough k s; strings = steps.all-read s k .strings; scopes = steps.all-read s k .scopes }
 
-pub table-read : {width : ℕ} {s : List ℕ} {c : Cursor} {count : ℕ} {t : List ℕ} {n : Cursor} {t′ : List ℕ} → ReadTable width s c count t (moved.To n) t′
+table-read : {width : ℕ} {s : List ℕ} {c : Cursor} {count : ℕ} {t : List ℕ} {n : Cursor} {t′ : List ℕ} → ReadTable width s c count t (moved.To n) t′
     → TableRead width s c count t n t′
 table-read {width} {s} {c} {count} {t} {n} {t′} v = record {
   cursor = r-table.read-moves width s c count t t′ n v;
@@ -178,7 +175,7 @@ table-read {width} {s} {c} {count} {t} {n} {t′} v = record {
   rest = r-table.read-rest width s c count t t′ n v;
 }
 
-pub strings-read : {count : ℕ} {kinds small overflow storage t : List ℕ} {n : ℕ} {t′ : List ℕ} → DecodeStrings count kinds small overflow storage t (decoded.Rows n) t′
+strings-read : {count : ℕ} {kinds small overflow storage t : List ℕ} {n : ℕ} {t′ : List ℕ} → DecodeStrings count kinds small overflow storage t (decoded.Rows n) t′
     → StringsRead count kinds small overflow storage t n t′
 strings-read {count} {kinds} {small} {overflow} {storage} {t} {n} {t′} v = record {
   counts = r-strings.decoded-count count kinds small overflow storage t t′ n v;
@@ -188,13 +185,13 @@ strings-read {count} {kinds} {small} {overflow} {storage} {t} {n} {t′} v = rec
   bytes = r-strings.decoded-bytes count kinds small overflow storage t t′ n v;
 }
 
-pub object-read : (keys values : List ℕ) (b : Bool) (offset count : ℕ) (ks ps : List ℕ) (o : Object) (ks′ ps′ : List ℕ) (n : ℕ)
+object-read : (keys values : List ℕ) (b : Bool) (offset count : ℕ) (ks ps : List ℕ) (o : Object) (ks′ ps′ : List ℕ) (n : ℕ)
     → ReadObject keys values b offset count ks ps o ks′ ps′ → (count ≡ 0 → ⊥)
     → seriesAnswer (choice b keys values) offset count (length ks) (length ps) ≡ gives n → ObjectRead keys values b offset o n
 object-read keys values b offset count ks ps o ks′ ps′ n v some e =
     (used.used-within (choice b keys values) offset count (length ks) (length ps) n some e, parts.part-is keys values b offset count n v some e)
 
-pub handlers-read : (s functions t : List ℕ) → HandlersRead s functions t
+handlers-read : (s functions t : List ℕ) → HandlersRead s functions t
 handlers-read s fs t = record {
   some = rows-of.shown-rows s fs;
   only = rows-of.rows-shown s fs;
@@ -203,11 +200,35 @@ handlers-read s fs t = record {
   rest = rows-of.rest-stays s fs t;
 }
 
-pub sections-read : (start regexps storage cjs : ℕ) (given : Bool) (sources : ℕ) (s : List ℕ) (v : Sections) (n : Cursor)
+sections-read : (start regexps storage cjs : ℕ) (given : Bool) (sources : ℕ) (s : List ℕ) (v : Sections) (n : Cursor)
     → sectionsAt start regexps storage cjs given sources s ≡ got v n → SectionsRead s start v
 sections-read start regexps storage cjs given sources s v n e =
     let f = pairs.sections-fit start regexps storage cjs given sources s v n e in
     (laid start regexps storage cjs given sources s v n e, f .0, f .1, f .2)
 
-pub debug-read : (b : Contents) (t : Tables) → DebugRead b t
+debug-read : (b : Contents) (t : Tables) → DebugRead b t
 debug-read b t = record { callees = callees.callees-read (stringCount b) (b .callees); past = r-debug.past-rows b t }
+
+-- every one of them
+pub theorems : Theorems
+theorems = record {
+  worked = hold;
+  unique = unique;
+  as-fresh = λ a b layout start count low high t t₁ t₂ t₃ r q v f g. as-fresh v f g;
+  refreshes = λ s layout start count low high k t t′ v. refreshes v;
+  met = met;
+  reads = λ s layout start count t t′ v. reads v;
+  cursor-left = cursor-left;
+  tables-left = tables-left;
+  exported-left = exported-left;
+  counted-left = counted-left;
+  exact = exact;
+  packing = packing;
+  whole = whole;
+  table-read = λ width s c count t n t′ v. table-read {width} {s} {c} {count} v;
+  strings-read = λ count kinds small overflow storage t n t′ v. strings-read {count} {kinds} {small} {overflow} {storage} v;
+  object-read = object-read;
+  handlers-read = handlers-read;
+  sections-read = sections-read;
+  debug-read = debug-read;
+}

@@ -4,32 +4,32 @@ use Prim.Native.Nat.{ℕ}
 use mathlib.Core.Path.{_≡_}
 use mathlib.Core.List.{List, [], _∷_, _++_}
 use lib.IntN.{pos, negsuc}
-use lib.ListN.{replicate}
+use lib.ListN.{length, replicate}
 use Rattle.hbc_claims_function.specs.Packed.{legacy, modern, legacyZeros, modernZeros}
 use Rattle.hbc_io.specs.Outcome.{got, valued, cursorAt}
 use Rattle.hbc_io.specs.Answer.{gives, refusedAt}
+use Rattle.hbc_io.specs.Lends.{written}
 use Rattle.hbc_io_leb.specs.Leb.{lebBytes, signedOf}
 use Rattle.hbc_function_record.specs.declared.Layout.the-variants.{Legacy16, Modern12}
 use Rattle.hbc_function_record.specs.declared.Record.the-variants as rec
 use Rattle.hbc_function_record.specs.Record.{legacyPlace, modernPlace}
 use Rattle.hbc_function_header.specs.Header.{readFunction}
-use Rattle.hbc_rows.specs.Rows.{filled}
-use Rattle.hbc_table_strings.specs.Strings.{decodeAnswer, decodedRows}
-use Rattle.hbc_buffer.specs.Series.{after, kindAt, payloadAt, seriesAnswer}
+use Rattle.hbc_table_strings.specs.Strings.{lesser, decodeAnswer, decodedRows}
+use Rattle.hbc_buffer.specs.Series.{seriesAnswer, seriesTables}
 
 -- function 0 of the table at 0 (P1, P2, P5) is answered by `readFunction`, the packed place of a record (P3, P4) by `legacyPlace` and `modernPlace`
 
 -- so many strings of these runs and small entries, no pairs, storage of four bytes, over a lent table: the answer, and the table afterwards
 abbrev pub Decodes : ℕ → List ℕ → List ℕ → List ℕ → List ℕ → Type 0
 Decodes count kinds small before after =
-    (decodeAnswer count small [] (replicate 4 0) before ≡ gives count) × (decodedRows kinds small [] 4 count before ≡ after)
+    (decodeAnswer count small [] (replicate 4 0) before ≡ gives count)
+    × (written (decodeAnswer count small [] (replicate 4 0) before) (decodedRows kinds small [] 4 (lesser count (length small)) before) before ≡ after)
 
 -- a buffer, read from its first byte into two tables of as many zeros as values: the bytes used, the kinds, the payloads
 abbrev pub Reads : List ℕ → ℕ → ℕ → List ℕ → List ℕ → Type 0
 Reads s count used kinds payloads =
     (seriesAnswer s 0 count count count ≡ gives used)
-    × (filled (kindAt s (cursorAt 0)) count (replicate count 0) ≡ kinds)
-    × (filled (payloadAt s (cursorAt 0)) count (replicate count 0) ≡ payloads)
+    × (_≡_ {A = List ℕ × List ℕ} (seriesTables s 0 count (replicate count 0) (replicate count 0)) (kinds, payloads))
 
 abbrev pub cases : List {1} (Type 0)
 cases =

@@ -1,5 +1,5 @@
--- docs/FORMAT.md, section 1.6, each part naming its own: every theorem of the product, stated in full in eight sections. What proves each stands in
--- proofs/Proved, under the name in brackets. The promises that they speak of (`ReadFunctions`, `ReadTable`, ..) are what the calls' contracts cite;
+-- docs/FORMAT.md, section 1.6, each part naming its own: every theorem of the product, stated in full: the words in eight sections, and at the
+-- end the theorems themselves, in one record, under the names in brackets. proofs/Proved proves them. The promises that they speak of (`ReadFunctions`, `ReadTable`, ..) are what the calls' contracts cite;
 -- docs/PROMISES.md says which. n is a cursor as a call leaves it, t′ a table.
 use Prim.Native.Nat.{ℕ, suc, _+_, _*_, _%_, _^_, _≤_, _<_}
 use mathlib.Core.Path.{_≡_}
@@ -10,7 +10,7 @@ use lib.Ieee.{Float}
 use lib.Bits.{bitOr}
 use lib.Dec.{eqb}
 use Rattle.hbc_bits.specs.Bits.{leAt}
-use Rattle.hbc_io.specs.Outcome.{refused, valued, cursorAt, limit}
+use Rattle.hbc_io.specs.Outcome.{got, refused, valued, cursorAt, limit}
 use Rattle.hbc_io.specs.Answer.{Answer, gives, refuses, asked}
 use Rattle.hbc_io.specs.Plain.{plainAt, bytesAt, seekTo, alignTo}
 use Rattle.hbc_io.specs.declared.Cursor.{Cursor}
@@ -44,7 +44,7 @@ use Rattle.hbc_table_strings.specs.Strings.{lesser, DecodeStrings}
 use Rattle.hbc_table_bytes.specs.StringBytes.{stringBytes}
 use Rattle.hbc_buffer_literal.specs.Literal.{literalAt}
 use Rattle.hbc_buffer.specs.declared.Series.the-variants as series
-use Rattle.hbc_buffer.specs.Series.{headAt, ReadSeries}
+use Rattle.hbc_buffer.specs.Series.{headAt, seriesAnswer, ReadSeries}
 use Rattle.hbc_buffer_object.specs.declared.Object.{Object}
 use Rattle.hbc_buffer_object.specs.Object.{named as choice, objectPart, ReadObject}
 use Rattle.hbc_parsing_handlers.specs.declared.Listed.the-variants as listed
@@ -54,6 +54,7 @@ use Rattle.hbc_parsing_handlers.specs.Why.{why, shown}
 use Rattle.hbc_parsing_handlers.specs.Handlers.{handlerWidth, total, handlerRow, putHandlers, ReadHandlers}
 use Rattle.hbc_parsing_sections.specs.declared.Sections.{Sections}
 use Rattle.hbc_parsing_sections.specs.Laid.{Laid}
+use Rattle.hbc_parsing_sections.specs.Sections.{sectionsAt}
 use Rattle.hbc_debug_parts.specs.declared.InFile.{InFile}
 use Rattle.hbc_debug_strings.specs.Strings.{stringsOf, stringTable}
 use Rattle.hbc_debug_scopes.specs.Scopes.{scopeAt, scopesOf}
@@ -91,15 +92,12 @@ use Rattle.hbc_claims_c.specs.Unique as u-c
 use Rattle.hbc_claims.specs.Cases.{cases}
 use Rattle.hbc_claims.specs.Unique as u-listing
 
--- ==== 1. The worked cases: P1 to P10 of docs/FORMAT.md, section 10.1, each stated in Cases (`worked`)
-
-abbrev pub Worked : Type 0
-Worked = All cases
+-- ==== 1. The worked cases: P1 to P10 of docs/FORMAT.md, section 10.1, each stated in Cases, one list (`worked`)
 
 -- ==== 2. Uniqueness (`unique`)
 
 -- of every public call, by layers, and of every exported one: two outcomes that both meet its contract, as the checker has it, are equal: the answer, and
--- every word or number that was lent to it; each by the one law `same` of hbc_claims_law: what equals one thing is one thing
+-- every word or number that was lent to it (the boundary code of hbc_c_io .. is what its exports call); each by the one law `same` of hbc_claims_law: what equals one thing is one thing
 pub record Unique : Type 0 where
   pub cursor : u-io.Unique
   pub reader : u-reader.Unique
@@ -343,3 +341,35 @@ pub record DebugRead (b : Contents) (t : Tables) : Type 0 where
   pub callees : CalleesRead (stringCount b) (b .callees)
   -- the words past the rows of each table are as they were
   pub past : PastRows b t
+
+-- ==== The theorems
+
+pub record Theorems : Type 1 where
+  pub worked : All cases
+  pub unique : Unique
+  pub as-fresh : (a b : List ℕ) (layout : Layout) (start count low high : ℕ) (t t₁ t₂ t₃ : List ℕ) (r : Reading) (q : Refreshed)
+      → Edited a b layout start count low high t t₁ → ReadFunctions b layout start count t r t₂ → RefreshFunctions b layout start count low high t₁ q t₃
+      → AsFresh r q t₁ t₂ t₃
+  pub refreshes : (s : List ℕ) (layout : Layout) (start count low high k : ℕ) (t t′ : List ℕ)
+      → RefreshFunctions s layout start count low high t (refreshed.Done k) t′ → Refreshes s layout start count low high t k t′
+  pub met : (s : List ℕ) (layout : Layout) (start low high i : ℕ) → Meets s layout start low high i
+  pub reads : (s : List ℕ) (layout : Layout) (start count : ℕ) (t t′ : List ℕ) → ReadFunctions s layout start count t reading.Read t′
+      → Reads s layout start count t t′
+  pub cursor-left : (s : List ℕ) (c : Cursor) (k : Refusal) (n : Cursor) → CursorLeft s c k n
+  pub tables-left : (k : Refusal) → TablesLeft k
+  pub exported-left : (s : List ℕ) (at r at′ : ℕ) → (r ≡ 0 → ⊥) → ExportedLeft s at r at′
+  pub counted-left : (s : List ℕ) (r : ℕ) → High r → CountedLeft s r
+  pub exact : (bs : List ℕ) → Exact bs
+  pub packing : (s : List ℕ) (at i : ℕ) → Packed s at i
+  pub whole : (s : List ℕ) (k : ℕ) → Whole s k
+  pub table-read : (width : ℕ) (s : List ℕ) (c : Cursor) (count : ℕ) (t : List ℕ) (n : Cursor) (t′ : List ℕ)
+      → ReadTable width s c count t (moved.To n) t′ → TableRead width s c count t n t′
+  pub strings-read : (count : ℕ) (kinds small overflow storage t : List ℕ) (n : ℕ) (t′ : List ℕ)
+      → DecodeStrings count kinds small overflow storage t (decoded.Rows n) t′ → StringsRead count kinds small overflow storage t n t′
+  pub object-read : (keys values : List ℕ) (b : Bool) (offset count : ℕ) (ks ps : List ℕ) (o : Object) (ks′ ps′ : List ℕ) (n : ℕ)
+      → ReadObject keys values b offset count ks ps o ks′ ps′ → (count ≡ 0 → ⊥)
+      → seriesAnswer (choice b keys values) offset count (length ks) (length ps) ≡ gives n → ObjectRead keys values b offset o n
+  pub handlers-read : (s functions t : List ℕ) → HandlersRead s functions t
+  pub sections-read : (start regexps storage cjs : ℕ) (given : Bool) (sources : ℕ) (s : List ℕ) (v : Sections) (n : Cursor)
+      → sectionsAt start regexps storage cjs given sources s ≡ got v n → SectionsRead s start v
+  pub debug-read : (b : Contents) (t : Tables) → DebugRead b t

@@ -10,7 +10,7 @@ use Rattle.hbc_io.specs.Plain.{spanOf}
 use Rattle.hbc_io_leb.specs.Signed.{low32}
 use Rattle.hbc_debug_parts.specs.Parts.{noParts, noSection, partsOf}
 use Rattle.hbc_debug_strings.specs.Strings.{stringsOf}
-use Rattle.hbc_debug_scopes.specs.Scopes.{Scope, scopesOf, scopeWords, nameWords, scopeRow, nameCount, absent, parentWord}
+use Rattle.hbc_debug_scopes.specs.Scopes.{Scope, scopesOf, scopeWords, nameWords, scopeRow, nameCount, parentWord}
 use Rattle.hbc_debug_scopes.specs.Scopes.{scopeWidth, offsetPlace, parentPlace, flagsPlace, firstPlace, countPlace}
 use Rattle.hbc_debug_callees.specs.Callees.{pairsOf, lastName, none, name}
 
@@ -21,8 +21,8 @@ pub record Cases : Type 0 where
   pub scope : scopesOf (127 ∷ 0 ∷ 2 ∷ 0 ∷ 3 ∷ [])
       ≡ record { offset = 0; front = record { parent = negsuc 0; flags = pos 0; count = 2 }; names = slebOf (0 ∷ []) ∷ slebOf (3 ∷ []) ∷ [] } ∷ []
   -- its row has no parent, and the name out of range is absent
-  pub scope-row : scopeWords (scopesOf (127 ∷ 0 ∷ 2 ∷ 0 ∷ 3 ∷ [])) ≡ 0 ∷ absent ∷ 0 ∷ 0 ∷ 2 ∷ []
-  pub scope-names : nameWords 2 (scopesOf (127 ∷ 0 ∷ 2 ∷ 0 ∷ 3 ∷ [])) ≡ 0 ∷ absent ∷ []
+  pub scope-row : scopeWords (scopesOf (127 ∷ 0 ∷ 2 ∷ 0 ∷ 3 ∷ [])) ≡ 0 ∷ 4294967295 ∷ 0 ∷ 0 ∷ 2 ∷ []
+  pub scope-names : nameWords 2 (scopesOf (127 ∷ 0 ∷ 2 ∷ 0 ∷ 3 ∷ [])) ≡ 0 ∷ 4294967295 ∷ []
   -- which word of a row is which
   pub row-offset : (first : ℕ) (x : Scope) → getD (scopeRow first x) offsetPlace 0 ≡ x .offset
   pub row-parent : (first : ℕ) (x : Scope) → getD (scopeRow first x) parentPlace 0 ≡ parentWord (x .front .parent)

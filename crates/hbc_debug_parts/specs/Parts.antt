@@ -30,7 +30,7 @@ headerWord file section at = wordAt 4 file (inFile section at .0)
 abbrev pub headerField : List ℕ → InFile → ℕ → ℕ
 headerField file section k = headerWord file section (record { 0 = k })
 
--- seven u32, as listed in debug.rs
+-- seven u32, in the order of docs/FORMAT.md, section 7.2
 unfoldable pub headerAt : List ℕ → InFile → Header
 headerAt file section =
     record {

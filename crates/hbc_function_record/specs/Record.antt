@@ -113,7 +113,7 @@ unfoldable pub largeAt : List ℕ → Layout → ℕ → ℕ → Record
 largeAt s lay.Legacy16 at i = rec.Legacy (legacyLarge s at i)
 largeAt s lay.Modern12 at i = rec.Modern (modernLarge s at i)
 
--- as a call of its own: every field is 0 in a file of more than 2^30 bytes, and where its bytes are not all there
+-- as a call of its own: every field but id is 0 in a file of more than 2^30 bytes, and where its bytes are not all there
 unfoldable pub largeIn : List ℕ → Layout → ℕ → ℕ → Record
 largeIn s layout at i = below limit (length s) (inlineOf layout i 0) (below (length s) (at + largeOf layout) (inlineOf layout i 0) (largeAt s layout at i))
 

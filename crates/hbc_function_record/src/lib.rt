@@ -126,7 +126,7 @@ fn there(s: &[u8], at: usize, n: usize) -> bool
     true
 }
 
-// The record whose fields are all 0.
+// The record whose fields but id are all 0.
 fn zeros(layout: Layout, id: u32) -> Record
     ensures { λ r. ⌜ r ≡ inlineOf layout id 0 ⌝ }
 {

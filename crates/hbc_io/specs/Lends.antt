@@ -20,9 +20,9 @@ written (gives a) new old = new
 written (refuses x) new old = old
 
 -- r says o; the words are the new ones if r gives what was asked for, and as they were if it refuses. What r says is told as an answer.
-pub record Tells {O A R W : Type 0} (told : O → Answer A) (of : R → O) (o : O) (new before : W) (r : R) (after : W) : Type 0 where
+pub record Tells {O A R W : Type 0} (tell : O → Answer A) (of : R → O) (o : O) (new before : W) (r : R) (after : W) : Type 0 where
   pub says : of r ≡ o
-  pub leaves : after ≡ written (told (of r)) new before
+  pub leaves : after ≡ written (tell (of r)) new before
 
 -- of an answer itself
 abbrev pub Lends : {A R W : Type 0} → (R → Answer A) → Answer A → W → W → R → W → Type 0
