@@ -1,5 +1,6 @@
 -- docs/FORMAT.md, section 1.6, each part naming its own: every theorem of the product, stated in full: the words in eight sections, and at the
--- end the theorems themselves, in one record, under the names in brackets. proofs/Proved proves them. The promises that they speak of (`ReadFunctions`, `ReadTable`, ..) are what the calls' contracts cite;
+-- end the theorems themselves, in one record, under the names in brackets. proofs/Proved proves them. The promises that they speak of
+-- (`ReadFunctions`, `ReadTable`, ..) are what the calls' contracts cite;
 -- docs/PROMISES.md says which. n is a cursor as a call leaves it, t′ a table.
 use Prim.Native.Nat.{ℕ, suc, _+_, _*_, _%_, _^_, _≤_, _<_}
 use mathlib.Core.Path.{_≡_}
@@ -97,7 +98,8 @@ use Rattle.hbc_claims.specs.Unique as u-listing
 -- ==== 2. Uniqueness (`unique`)
 
 -- of every public call, by layers, and of every exported one: two outcomes that both meet its contract, as the checker has it, are equal: the answer, and
--- every word or number that was lent to it (the boundary code of hbc_c_io .. is what its exports call); each by the one law `same` of hbc_claims_law: what equals one thing is one thing
+-- every word or number that was lent to it (the boundary code of hbc_c_io .. is what its exports call); each by the one law `same` of hbc_claims_law:
+-- what equals one thing is one thing
 pub record Unique : Type 0 where
   pub cursor : u-io.Unique
   pub reader : u-reader.Unique

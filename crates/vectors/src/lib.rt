@@ -4,7 +4,8 @@ ghost use mathlib.Core.Path.{_≡_};
 ghost use mathlib.Core.Bool.{_&&_};
 ghost use Prim.Native.Nat.{min};
 ghost use lib.ListN.{length};
-ghost use Rattle.vectors.specs.Records.{told, numberAt, lowOf, spanAt, pastAt, bytesOf, recordAt, wordsOf, wordsIn, firstOf, judgedOn, wordAt, longAt, heldAt, heldLongsAt, saidAt, toldAt, byteAt, sameOf, counts, oneMore, countedOn};
+ghost use Rattle.vectors.specs.Records.{told, numberAt, lowOf, spanAt, pastAt, bytesOf, recordAt, wordsOf, wordsIn, firstOf, judgedOn};
+ghost use Rattle.vectors.specs.Records.{wordAt, longAt, heldAt, heldLongsAt, saidAt, toldAt, byteAt, sameOf, counts, oneMore, countedOn};
 use hbc_io::Cursor;
 use hbc_io::ReadSpan;
 use hbc_io::Refusal;
@@ -181,7 +182,10 @@ fn lesser(n: u64, len: usize) -> usize
 
 // A list of words: how many, and they. What the table has no room for is left out.
 pub fn words_at(s: &[u8], at: usize, table: &mut [u32]) -> Words
-    ensures { λ r. ⌜ (r ≡ wordsOf (now (s .entry)) at (length (now (table .entry)))) × (now (table .exit) ≡ wordsIn (now (s .entry)) at (now (table .entry))) ⌝ }
+    ensures { λ r. ⌜
+        (r ≡ wordsOf (now (s .entry)) at (length (now (table .entry))))
+        × (now (table .exit) ≡ wordsIn (now (s .entry)) at (now (table .entry)))
+        ⌝ }
 {
     let n = number_at(s, at);
     let count = lesser(n.value, table.len());

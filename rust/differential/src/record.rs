@@ -1,4 +1,4 @@
-//! Recorded samples, as `replay` reads them for every layer but io: docs/COMPARISON.md has their form.
+//! Recorded samples, as `LAYER_vectors` reads them for every layer but io: docs/COMPARISON.md has their form.
 
 use harness::count;
 

@@ -16,7 +16,7 @@ const USAGE: &str = "usage: differential [--seconds N] [--seed S] [--full] [LAYE
 Compares every layer, or those named. Fixed inputs are always compared whole; random ones until N seconds have
 passed in all (default 20). --full adds inputs that need 8 GB of memory and many minutes. --hostile compares inputs
 that are made to take long instead, up to 2^30 bytes, and judges the time and memory of each call. --record writes a sample
-of the Rust's answers, as the program replay reads it; the layer is io if none is named. --replay compares one
+of the Rust's answers, as LAYER_vectors reads it; the layer is io if none is named. --replay compares one
 input, in the words that a difference prints.";
 
 pub struct Layer {
