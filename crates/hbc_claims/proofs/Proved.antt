@@ -225,8 +225,8 @@ theorems = record {
   exact = exact;
   packing = packing;
   whole = whole;
-  table-read = λ width s c count t n t′ v. table-read {width} {s} {c} {count} v;
-  strings-read = λ count kinds small overflow storage t n t′ v. strings-read {count} {kinds} {small} {overflow} {storage} v;
+  table-read = λ width s c count t n t′ v. table-read {width = width} {s = s} {c = c} {count = count} v;
+  strings-read = λ count kinds small overflow storage t n t′ v. strings-read {count = count} {kinds = kinds} {small = small} {overflow = overflow} {storage = storage} v;
   object-read = object-read;
   handlers-read = handlers-read;
   sections-read = sections-read;
