@@ -106,6 +106,48 @@ uint64_t hbc_read_cstring(const uint8_t *s, size_t s_len, size_t *at, size_t *st
  * cursor then stands after the length. */
 uint64_t hbc_read_length_prefixed_string(const uint8_t *s, size_t s_len, size_t *at, size_t *start, size_t *size);
 
+/* ---- Function tables ----
+ *
+ * A layout is a number: 0 legacy (headers of 16 bytes), 1 modern (12). A row is HBC_FUNCTION_WORDS words:
+ *
+ *   layout, id, offset, param_count, size, name, info_offset, frame_size, flags; then
+ *   legacy  environment_size, read index, write index, 0, 0, 0, 0
+ *   modern  loop_depth, number_reg, non_ptr_reg, read cache, write cache, new_object, private_name
+ *
+ * `start` is the byte of the file at which the table of headers begins. A header with bit 5 of its flags set is read
+ * from its large header, at the place packed into it.
+ * Refused 12 before all else if `layout` is neither 0 nor 1. */
+#define HBC_FUNCTION_WORDS 16
+
+/* Reads functions 0 to count - 1 into rows 0 to count - 1 of `table`. Accepted, the answer is `count`; words past
+ * those rows stay.
+ * Refused 12; 1; 2 if `start` is past the end; 4 if the table has fewer than `count` rows; then, with the first
+ * function that cannot be read as place, 2 if its packed place is past the end, 3 if its header or its large header
+ * runs past the end. */
+uint64_t hbc_read_functions(const uint8_t *file, size_t file_len, uint32_t layout, size_t start, uint32_t count,
+                            uint32_t *table, size_t table_len);
+
+/* Brings a table up to date after the bytes from `low` up to `high` of the file changed, and nothing else: reads again
+ * those of the `count` functions that meet this span, from the file as it is now, into their rows. A function meets it
+ * if its header, or its large header if it is flagged, shares a byte with it; an empty span meets nothing.
+ * Accepted, the answer is how many were read again; every other word of the table stays.
+ * Refused 12; 1; 2 if `start` is past the end; 10 if `low` is above `high`, or `high` past the end; 4 as above; 3 with
+ * the first function whose header is not wholly in the file as place, whether it meets the span or not; then 2 or 3 as
+ * above for the first function that meets the span and cannot be read. */
+uint64_t hbc_refresh_functions(const uint8_t *file, size_t file_len, uint32_t layout, size_t start, uint32_t count,
+                               size_t low, size_t high, uint32_t *table, size_t table_len);
+
+/* Reads function `id` alone, into row 0 of `table`. Accepted, the answer is 1; words past that row stay.
+ * Refused 12; 1; 2 at place 0 if `start` is past the end; 4 if no row is lent; 2 or 3 with `id` as place. */
+uint64_t hbc_read_function(const uint8_t *file, size_t file_len, uint32_t layout, size_t start, uint32_t id,
+                           uint32_t *table, size_t table_len);
+
+/* Whether function `id` meets the bytes from `low` up to `high`, which need not be in the file: 1 if so, 0 if not, and
+ * 0 where its header is not wholly in the file, or the file is longer than 2^30 bytes.
+ * Refused 12 only. */
+uint64_t hbc_function_meets(const uint8_t *file, size_t file_len, uint32_t layout, size_t start, uint32_t id,
+                            size_t low, size_t high);
+
 /* ---- String tables ---- */
 
 /* Reads `count` words from the cursor on, the least byte first, into `table`. Kind runs are read so too.
@@ -165,48 +207,6 @@ uint64_t hbc_read_series(const uint8_t *s, size_t s_len, uint32_t offset, uint32
 uint64_t hbc_read_object(const uint8_t *keys, size_t keys_len, const uint8_t *values, size_t values_len, uint32_t yes,
                          uint32_t offset, uint32_t count, uint32_t *kinds, size_t kinds_len, uint64_t *payloads,
                          size_t payloads_len);
-
-/* ---- Function tables ----
- *
- * A layout is a number: 0 legacy (headers of 16 bytes), 1 modern (12). A row is HBC_FUNCTION_WORDS words:
- *
- *   layout, id, offset, param_count, size, name, info_offset, frame_size, flags; then
- *   legacy  environment_size, read index, write index, 0, 0, 0, 0
- *   modern  loop_depth, number_reg, non_ptr_reg, read cache, write cache, new_object, private_name
- *
- * `start` is the byte of the file at which the table of headers begins. A header with bit 5 of its flags set is read
- * from its large header, at the place packed into it.
- * Refused 12 before all else if `layout` is neither 0 nor 1. */
-#define HBC_FUNCTION_WORDS 16
-
-/* Reads functions 0 to count - 1 into rows 0 to count - 1 of `table`. Accepted, the answer is `count`; words past
- * those rows stay.
- * Refused 12; 1; 2 if `start` is past the end; 4 if the table has fewer than `count` rows; then, with the first
- * function that cannot be read as place, 2 if its packed place is past the end, 3 if its header or its large header
- * runs past the end. */
-uint64_t hbc_read_functions(const uint8_t *file, size_t file_len, uint32_t layout, size_t start, uint32_t count,
-                            uint32_t *table, size_t table_len);
-
-/* Brings a table up to date after the bytes from `low` up to `high` of the file changed, and nothing else: reads again
- * those of the `count` functions that meet this span, from the file as it is now, into their rows. A function meets it
- * if its header, or its large header if it is flagged, shares a byte with it; an empty span meets nothing.
- * Accepted, the answer is how many were read again; every other word of the table stays.
- * Refused 12; 1; 2 if `start` is past the end; 10 if `low` is above `high`, or `high` past the end; 4 as above; 3 with
- * the first function whose header is not wholly in the file as place, whether it meets the span or not; then 2 or 3 as
- * above for the first function that meets the span and cannot be read. */
-uint64_t hbc_refresh_functions(const uint8_t *file, size_t file_len, uint32_t layout, size_t start, uint32_t count,
-                               size_t low, size_t high, uint32_t *table, size_t table_len);
-
-/* Reads function `id` alone, into row 0 of `table`. Accepted, the answer is 1; words past that row stay.
- * Refused 12; 1; 2 at place 0 if `start` is past the end; 4 if no row is lent; 2 or 3 with `id` as place. */
-uint64_t hbc_read_function(const uint8_t *file, size_t file_len, uint32_t layout, size_t start, uint32_t id,
-                           uint32_t *table, size_t table_len);
-
-/* Whether function `id` meets the bytes from `low` up to `high`, which need not be in the file: 1 if so, 0 if not, and
- * 0 where its header is not wholly in the file, or the file is longer than 2^30 bytes.
- * Refused 12 only. */
-uint64_t hbc_function_meets(const uint8_t *file, size_t file_len, uint32_t layout, size_t start, uint32_t id,
-                            size_t low, size_t high);
 
 /* ---- Handlers and trailing sections ---- */
 

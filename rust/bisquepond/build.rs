@@ -1,10 +1,8 @@
-//! Finds libhbc_c.a, or has it built, or says in one line what is missing.
+//! Finds the archive of libhbc_c, or has it built, or says in one line what is missing.
 
 use std::env;
 use std::path::{Path, PathBuf};
 use std::process::Command;
-
-const DEFAULT: &str = "target/staticlib/libhbc_c.a";
 
 fn main() {
     println!("cargo::rerun-if-env-changed=HBC_C_ARCHIVE");
@@ -25,8 +23,8 @@ fn link(archive: &Path) {
     );
 }
 
-/// The archive that HBC_C_ARCHIVE names, from the repository's root; else the one that `rt staticlib hbc_c` writes,
-/// which is run if it is not there yet.
+/// The archive that HBC_C_ARCHIVE names, from the repository's root; else the one that `rust/archive` makes, which is run
+/// if it is not there yet.
 fn archive() -> Result<PathBuf, String> {
     let package = PathBuf::from(env::var_os("CARGO_MANIFEST_DIR").unwrap());
     let repository = package.ancestors().nth(2).unwrap();
@@ -39,34 +37,20 @@ fn archive() -> Result<PathBuf, String> {
             .ok_or_else(missing);
     }
     let of = |part: &str| env::var(format!("CARGO_CFG_TARGET_{part}")).unwrap_or_default();
-    if (of("ARCH").as_str(), of("OS").as_str()) != ("x86_64", "linux") {
-        return Err(format!(
-            "libhbc_c.a links only into programs for x86-64 Linux, and this build is for {} {}: build with --target x86_64-unknown-linux-gnu",
-            of("ARCH"),
-            of("OS")
-        ));
-    }
-    let archive = repository.join(DEFAULT);
+    let name = match (of("ARCH").as_str(), of("OS").as_str()) {
+        ("x86_64", "linux") => "libhbc_c.a".to_string(),
+        (machine, "linux") => format!("libhbc_c-{machine}.a"),
+        (_, system) => return Err(format!("the archive is for Linux, not for {system}")),
+    };
+    let archive = repository.join("target/staticlib").join(name);
     if !archive.is_file() {
-        make(repository).map_err(|why| {
-            format!(
-                "no {}, and {why}; HBC_C_ARCHIVE can name the archive",
+        let made = Command::new(repository.join("rust/archive")).output();
+        if !made.is_ok_and(|made| made.status.success()) || !archive.is_file() {
+            return Err(format!(
+                "no {}, and rust/archive did not make it: it needs the command 'rt', and makes the archive of its own machine; HBC_C_ARCHIVE can name the archive",
                 archive.display()
-            )
-        })?;
+            ));
+        }
     }
     Ok(archive)
-}
-
-fn make(repository: &Path) -> Result<(), String> {
-    let mut rt = Command::new("rt");
-    match rt
-        .args(["staticlib", "hbc_c"])
-        .current_dir(repository)
-        .output()
-    {
-        Err(_) => Err("no command 'rt' on the PATH to make it".to_string()),
-        Ok(made) if made.status.success() => Ok(()),
-        Ok(_) => Err("`rt staticlib hbc_c` did not make it".to_string()),
-    }
 }

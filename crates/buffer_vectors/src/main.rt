@@ -1,4 +1,4 @@
-// Replays recorded answers of the published Rust on literals, from standard input (docs/VECTORS.md).
+// Replays recorded answers of the published Rust on literals, from standard input (docs/COMPARISON.md).
 use hbc_buffer::Series;
 use hbc_buffer_literal::Literal;
 use hbc_buffer_literal::ReadLiteral;

@@ -1,6 +1,6 @@
-// Replays recorded answers of the published Rust on debug sections, from standard input (docs/VECTORS.md).
+// Replays recorded answers of the published Rust on debug sections, from standard input (docs/COMPARISON.md).
 // The fields of a record: offset, words lent in the four tables, the file; then the answer, and every word of strings, scopes, names, callees.
-use hbc_debug::ReadDebug;
+use hbc_debug::Debugged;
 use vectors::Counts;
 use vectors::FILL;
 use vectors::Told;
@@ -35,13 +35,10 @@ fn both(a: usize, b: usize) -> usize {
     a % 0x1_0000_0000 + b % 0x1_0000_0000 * 0x1_0000_0000
 }
 
-fn told_of(r: ReadDebug) -> Told {
+fn told_of(r: Debugged) -> Told {
     match r {
-        ReadDebug::Read(n) => vectors::accepted(
-            both(n.strings, n.scopes),
-            both(n.names, n.callees),
-        ),
-        ReadDebug::Refused(r) => vectors::refused(r),
+        Debugged::Read(n) => vectors::accepted(both(n.strings, n.scopes), both(n.names, n.callees)),
+        Debugged::Refused(r) => vectors::refused(r),
     }
 }
 

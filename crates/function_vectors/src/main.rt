@@ -1,9 +1,9 @@
-// Replays recorded answers of the published Rust on function tables, from standard input (docs/VECTORS.md).
+// Replays recorded answers of the published Rust on function tables, from standard input (docs/COMPARISON.md).
 // The fields of a record: start, count or number, the span's two ends, words lent, the file; then the answer, and every word lent.
 use hbc_function::Refreshed;
-use hbc_header::Function;
-use hbc_header::Layout;
-use hbc_header::Reading;
+use hbc_function_header::Function;
+use hbc_function_header::Reading;
+use hbc_function_record::Layout;
 use vectors::Counts;
 use vectors::FILL;
 use vectors::Told;
@@ -79,9 +79,9 @@ fn same_refresh(s: &[u8], a: Asked, end: usize, layout: Layout) -> bool {
 
 fn same_one(s: &[u8], a: Asked, end: usize, layout: Layout) -> bool {
     let at = vectors::past(s, a.next);
-    match hbc_header::read_function(vectors::bytes(s, a.next), layout, a.start, a.count) {
+    match hbc_function_header::read_function(vectors::bytes(s, a.next), layout, a.start, a.count) {
         Function::Read(r) => {
-            let row = hbc_header::row_words(r);
+            let row = hbc_function_record::row_words(r);
             vectors::is_told(s, at, end, vectors::accepted(0, 0), &row)
         }
         Function::Refused(r) => {
@@ -93,7 +93,7 @@ fn same_one(s: &[u8], a: Asked, end: usize, layout: Layout) -> bool {
 
 fn same_meets(s: &[u8], a: Asked, end: usize, layout: Layout) -> bool {
     let row = [FILL; 16];
-    let met = hbc_header_ground::function_meets(
+    let met = hbc_function_header::function_meets(
         vectors::bytes(s, a.next),
         layout,
         a.start,

@@ -1,5 +1,5 @@
--- What the format's layouts are written in: little-endian numbers and bit fields. Two numbers or-ed bit by bit are `bitOr` of lib.Bits, the
--- language's own `|`; Laws.antt says of every field what it does there.
+-- docs/FORMAT.md, section 2.1: what the layouts are written in: little-endian numbers and bit fields. Two numbers or-ed bit by bit are `bitOr`
+-- of lib.Bits, the language's own `|`; proofs/Laws says of every field what it does there.
 use Prim.Native.Nat.{ℕ, _+_, _*_, _/_, _%_, _^_}
 use mathlib.Core.List.{List, [], _∷_}
 use lib.ListN.{take, drop}

@@ -9,9 +9,10 @@ use native.Mathlib.Numerals.{add-one}
 use lib.Pow.{pow-add}
 use lib.ListN.{length, set, length-set}
 use Rattle.hbc_bits.specs.Bits.{leAt, field}
-use Rattle.hbc_bits.specs.Laws.{Bytes, le-lt, le-add, field-low}
-use Rattle.hbc_buffer.specs.Series.{filled}
-use Rattle.hbc_buffer.specs.Fill.{filledFrom}
+use Rattle.hbc_bits.proofs.Laws.{Bytes, le-lt, le-add, field-low}
+use Rattle.hbc_rows.specs.Rows.{filled}
+use Rattle.hbc_rows.proofs.Laws.{filled-length}
+use Rattle.hbc_buffer.specs.Private.{filledFrom, payloadsFrom}
 
 pub from-more : (k n : ℕ) (g : ℕ → ℕ) (t : List ℕ) → filledFrom k (n + 1) g t ≡ set (filledFrom k n g t) (k + n) (g n)
 unfolding filledFrom
@@ -22,13 +23,12 @@ unfolding filledFrom
 from-length k zero g t = refl
 from-length k (suc n) g t = rw (length-set, from-length k n g t)
 
-pub filled-length : (n : ℕ) (f : ℕ → ℕ) (t : List ℕ) → length (filled n f t) ≡ length t
-unfolding filled
-filled-length zero f t = refl
-filled-length (suc n) f t = rw (length-set, filled-length n f t)
+-- entries that are there, are there in the table filled so far
+pub filled-room : (f : ℕ → ℕ) (n : ℕ) (t₀ : List ℕ) {t : List ℕ} {m count : ℕ} → t ≡ filled f n t₀ → count ≤ length t₀ → m ≤ count → m ≤ length t
+filled-room f n t₀ e h l = omega (arith, ap length e ∙ filled-length f t₀ n, h, l)
 
 -- n entries more
-pub from-filled : (k n : ℕ) (g f : ℕ → ℕ) (t : List ℕ) → ((i : ℕ) → i < n → g i ≡ f (k + i)) → filledFrom k n g (filled k f t) ≡ filled (k + n) f t
+pub from-filled : (k n : ℕ) (g f : ℕ → ℕ) (t : List ℕ) → ((i : ℕ) → i < n → g i ≡ f (k + i)) → filledFrom k n g (filled f k t) ≡ filled f (k + n) t
 unfolding filledFrom filled
 from-filled k zero g f t h = let e : k + 0 ≡ k = omega arith in rw e
 from-filled k (suc n) g f t h = rw (add-suc, from-filled k n g f t (λ i l. h i (omega arith)), h n (omega arith))
@@ -62,8 +62,8 @@ cut-word s at w b h r =
     rw (q, field-low (8 * w) 0 (8 * w) (leAt s at w) (leAt s (at + w) (8 - w)) (omega arith)) (low-all (8 * w) (leAt s at w) (le-lt s at w b))
 
 -- one payload more
-pub payload-more : (first i at w : ℕ) (s t₀ : List ℕ) {t : List ℕ} {p x v : ℕ} → t ≡ filledFrom first i (λ j. leAt s (at + j * w) w) t₀ → p ≡ at + i * w → x ≡ leAt s p 8
-    → v ≡ field 0 (8 * w) x → Bytes s → w ≤ 8 → p + 8 ≤ length s → set t (first + i) v ≡ filledFrom first (i + 1) (λ j. leAt s (at + j * w) w) t₀
+pub payload-more : (first i at w : ℕ) (s t₀ : List ℕ) {t : List ℕ} {p x v : ℕ} → t ≡ payloadsFrom s at w first i t₀ → p ≡ at + i * w → x ≡ leAt s p 8
+    → v ≡ field 0 (8 * w) x → Bytes s → w ≤ 8 → p + 8 ≤ length s → set t (first + i) v ≡ payloadsFrom s at w first (i + 1) t₀
 payload-more first i at w s t₀ {t} {p} e q f g b h r =
     rw (from-more, ← e) (ap (set t (first + i)) (g ∙ ap (field 0 (8 * w)) f ∙ cut-word s p w b h r ∙ ap (λ (z : ℕ). leAt s z w) q))
 

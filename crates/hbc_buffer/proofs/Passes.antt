@@ -10,13 +10,14 @@ use Rattle.hbc_bits.specs.Bits.{leAt, field}
 use Rattle.hbc_io.specs.Outcome.{got, refused, cursorAt, refusal, refusalAt, limit}
 use Rattle.hbc_io.specs.declared.Cursor.{Cursor}
 use Rattle.hbc_io.proofs.Reading.{not-both}
+use Rattle.hbc_io.specs.Answer.{gives, refuses}
+use Rattle.hbc_rows.specs.Rows.{filled}
 use Rattle.hbc_buffer_literal.specs.Literal.{widthOf, literalOf, kindOf}
 use Rattle.hbc_buffer_literal.proofs.Laws.{width-most, kind-any}
-use Rattle.hbc_buffer.specs.declared.Series.the-variants as series
-use Rattle.hbc_buffer.specs.Series.{Run, runOf, tagAt, headAt, after, usedOf, valueAt, kindAt, payloadAt, filled}
-use Rattle.hbc_buffer.specs.Fill.{byteAt, lengthOf, filledFrom, Whole}
+use Rattle.hbc_buffer.specs.Series.{Run, runOf, tagAt, headAt, after, usedOf, valueAt, kindAt, payloadAt}
+use Rattle.hbc_buffer.specs.Private.{byteAt, lengthOf, filledFrom, kindsFrom, payloadsFrom, Whole}
 use Rattle.hbc_buffer.proofs.Fills.{from-filled}
-use Rattle.hbc_buffer.proofs.Tags.{On, tag-on, tag-cut, short-tag, short-length, none-width, head-here, head-skip, head-no}
+use Rattle.hbc_buffer.proofs.Tags.{On, tag-on, tag-there, tag-cut, short-tag, short-length, none-width, head-here, head-skip, head-no}
 use Rattle.hbc_buffer.proofs.Runs.{Ready, ready-head, after-none, refused-stays, run-past, run-cut, run-value}
 
 -- `done` of `count` values are read, the run is spent, and only empty tags stand between its end and `at`
@@ -67,7 +68,7 @@ module _ {s : List ℕ} {from count done at : ℕ} (g : Passed s from count done
       let h = head-no (g .tags) s (cursorAt at) m e in
       (h .0, refused-stays (suc done) s (cursorAt from) (after-none done s (cursorAt from) (g .is) (g .spent some) (g .skip ∙ h .1)) count (omega arith))
 
-  pub passed-none : (m : Cursor) → tagAt s (cursorAt at) ≡ refused (refusal 3) m → series.Refused (refusalAt 3 done) ≡ usedOf from (after count s (cursorAt from))
+  pub passed-none : (m : Cursor) → tagAt s (cursorAt at) ≡ refused (refusal 3) m → refuses (refusalAt 3 done) ≡ usedOf from (after count s (cursorAt from))
   passed-none m e = rw (none-after m e .1)
 
   pub whole-none : Whole count s (cursorAt from) → (m : Cursor) → tagAt s (cursorAt at) ≡ refused (refusal 3) m → ⊥
@@ -82,6 +83,11 @@ module _ {s : List ℕ} {from count done at : ℕ} (g : Passed s from count done
   -- a series that is whole has its next tag
   pub whole-tag : {b h : ℕ} → length s ≤ limit → b ≡ byteAt s at → h ≡ field 7 1 b → Whole count s (cursorAt from) → at + 1 + h ≤ length s
   whole-tag {b} {h} short first high v = tag-or short first high v (decLe (at + 1 + h) (length s))
+
+  -- and what it says is what its bytes say
+  pub whole-there : {b t h y n : ℕ} → length s ≤ limit → b ≡ byteAt s at → t ≡ field 4 3 b → h ≡ field 7 1 b → y ≡ byteAt s (at + 1) → n ≡ lengthOf b y
+      → Whole count s (cursorAt from) → tagAt s (cursorAt at) ≡ got (runOf t n) (cursorAt (at + 1 + h))
+  whole-there short first tag high second len v = tag-there s at short first tag high second len (whole-tag short first high v)
 
   module _ (short : length s ≤ limit) {t l f : ℕ} (e : tagAt s (cursorAt at) ≡ got (runOf t l) (cursorAt f)) (m : ℕ) (least : m ≡ min l (count - done)) where
     abbrev w : ℕ
@@ -108,7 +114,7 @@ module _ {s : List ℕ} {from count done at : ℕ} (g : Passed s from count done
         let z : l ≡ 0 → ⊥ = λ q. omega (arith, least, b, q) in
         run-cut (ready z) short i count (omega (arith, least, b)) (omega (arith, a, x)) (omega (arith, a, d, x)) (omega (arith, least, b, some))
 
-    pub passed-cut : length s - f < m * w → series.Refused (refusalAt 3 (done + (length s - f) / w)) ≡ usedOf from (after count s (cursorAt from))
+    pub passed-cut : length s - f < m * w → refuses (refusalAt 3 (done + (length s - f) / w)) ≡ usedOf from (after count s (cursorAt from))
     passed-cut h = rw (cut-after h)
 
     -- an empty tag
@@ -177,15 +183,15 @@ module _ {s : List ℕ} {from count done at : ℕ} (g : Passed s from count done
     whole-room v = room-or v (decLe (m * w) (length s - f))
 
     -- the words of the run are the next of each table
-    pub kinds-more : {k : ℕ} {a : List ℕ} (a₀ : List ℕ) → m * w ≤ length s - f → k ≡ kindOf (literalOf t 0) → a ≡ filled done (kindAt s (cursorAt from)) a₀
-        → filledFrom done m (λ _. k) a ≡ filled (done + m) (kindAt s (cursorAt from)) a₀
+    pub kinds-more : {k : ℕ} {a : List ℕ} (a₀ : List ℕ) → m * w ≤ length s - f → k ≡ kindOf (literalOf t 0) → a ≡ filled (kindAt s (cursorAt from)) done a₀
+        → kindsFrom k done m a ≡ filled (kindAt s (cursorAt from)) (done + m) a₀
     kinds-more {k} {a} a₀ h c b =
         rw b
         (from-filled done m (λ _. k) (kindAt s (cursorAt from)) a₀
         (λ i l. c ∙ kind-any t 0 (leAt s (f + i * w) w) ∙ passed-value (λ t v. kindOf (literalOf t v)) h i l))
 
-    pub payloads-more : {a : List ℕ} (a₀ : List ℕ) → m * w ≤ length s - f → a ≡ filled done (payloadAt s (cursorAt from)) a₀
-        → filledFrom done m (λ i. leAt s (f + i * w) w) a ≡ filled (done + m) (payloadAt s (cursorAt from)) a₀
+    pub payloads-more : {a : List ℕ} (a₀ : List ℕ) → m * w ≤ length s - f → a ≡ filled (payloadAt s (cursorAt from)) done a₀
+        → payloadsFrom s f w done m a ≡ filled (payloadAt s (cursorAt from)) (done + m) a₀
     payloads-more {a} a₀ h b =
         rw b (from-filled done m (λ i. leAt s (f + i * w) w) (payloadAt s (cursorAt from)) a₀ (λ i l. passed-value (λ t v. v) h i l))
 
@@ -197,7 +203,7 @@ module _ {s : List ℕ} {from count done at : ℕ} (g : Passed s from count done
     turn-within = on .within
 
 -- all values are read
-pub passed-all : {s : List ℕ} {from count done at : ℕ} → Passed s from count done at → done ≡ count → series.Used (at - from) ≡ usedOf from (after count s (cursorAt from))
+pub passed-all : {s : List ℕ} {from count done at : ℕ} → Passed s from count done at → done ≡ count → gives (at - from) ≡ usedOf from (after count s (cursorAt from))
 passed-all g e = rw (← e, g .is, g .here (λ z. omega (arith, e, z)))
 
 -- ---- the same tag again
@@ -242,12 +248,12 @@ module _ {s : List ℕ} {from count done at : ℕ} (g : Passed s from count done
       let e : at + (1 + size * wide) ≡ at + 1 + size * wide = omega arith in
       rw (e, known .1) (passed-more g some short there size least room)
 
-  pub again-kinds : {t v : ℕ} {x : List ℕ} (x₀ : List ℕ) → t ≡ field 4 3 b → v ≡ kindOf (literalOf t 0) → x ≡ filled done (kindAt s (cursorAt from)) x₀
-      → filledFrom done size (λ _. v) x ≡ filled (done + size) (kindAt s (cursorAt from)) x₀
+  pub again-kinds : {t v : ℕ} {x : List ℕ} (x₀ : List ℕ) → t ≡ field 4 3 b → v ≡ kindOf (literalOf t 0) → x ≡ filled (kindAt s (cursorAt from)) done x₀
+      → kindsFrom v done size x ≡ filled (kindAt s (cursorAt from)) (done + size) x₀
   again-kinds x₀ e f h = kinds-more g some short there size least x₀ room (rw e at f) h
 
-  pub again-payloads : {x : List ℕ} (x₀ : List ℕ) → x ≡ filled done (payloadAt s (cursorAt from)) x₀
-      → filledFrom done size (λ i. leAt s (at + 1 + i * wide) wide) x ≡ filled (done + size) (payloadAt s (cursorAt from)) x₀
+  pub again-payloads : {x : List ℕ} (x₀ : List ℕ) → x ≡ filled (payloadAt s (cursorAt from)) done x₀
+      → payloadsFrom s (at + 1) wide done size x ≡ filled (payloadAt s (cursorAt from)) (done + size) x₀
   again-payloads x₀ h = rw (known .1) (payloads-more g some short there size least x₀ room h)
 
 -- ---- tags without bytes
@@ -272,12 +278,12 @@ module _ {s : List ℕ} {from count done at : ℕ} (g : Passed s from count done
       let e : at + 1 + m * widthOf (field 4 3 b) ≡ at + 1 = rw (none-width b low, mul-zero) (add-zero (at + 1)) in
       rw e at (passed-more g some short tagged-none m fewer room-none)
 
-  pub none-kinds : {t v : ℕ} {x : List ℕ} (x₀ : List ℕ) → t ≡ field 4 3 b → v ≡ kindOf (literalOf t 0) → x ≡ filled done (kindAt s (cursorAt from)) x₀
-      → filledFrom done m (λ _. v) x ≡ filled (done + m) (kindAt s (cursorAt from)) x₀
+  pub none-kinds : {t v : ℕ} {x : List ℕ} (x₀ : List ℕ) → t ≡ field 4 3 b → v ≡ kindOf (literalOf t 0) → x ≡ filled (kindAt s (cursorAt from)) done x₀
+      → kindsFrom v done m x ≡ filled (kindAt s (cursorAt from)) (done + m) x₀
   none-kinds x₀ e f h = kinds-more g some short tagged-none m fewer x₀ room-none (rw e at f) h
 
-  pub none-payloads : {x : List ℕ} (x₀ : List ℕ) → x ≡ filled done (payloadAt s (cursorAt from)) x₀
-      → filledFrom done m (λ _. 0) x ≡ filled (done + m) (payloadAt s (cursorAt from)) x₀
+  pub none-payloads : {x : List ℕ} (x₀ : List ℕ) → x ≡ filled (payloadAt s (cursorAt from)) done x₀
+      → filledFrom done m (λ _. 0) x ≡ filled (payloadAt s (cursorAt from)) (done + m) x₀
   none-payloads x₀ h =
       rw h
       (from-filled done m (λ _. 0) (payloadAt s (cursorAt from)) x₀

@@ -9,7 +9,7 @@ use borrow.Author.Tests.{eq-eqb, ne-eqb, eqb-true, eqb-false, le-ltb, lt-ltb}
 use lib.ListN.{length}
 use lib.Dec.{eqb}
 use Rattle.hbc_bits.specs.Bits.{field}
-use Rattle.hbc_bits.specs.Laws.{field-lt, field-past}
+use Rattle.hbc_bits.proofs.Laws.{field-lt, field-past}
 use Rattle.hbc_io.specs.Outcome.{got, refused, valued, cursorAt, refusal, limit}
 use Rattle.hbc_io.specs.Plain.{plainAt}
 use Rattle.hbc_io.specs.declared.Cursor.{Cursor}
@@ -18,7 +18,7 @@ use Rattle.hbc_io.proofs.Reading.{then-got, valued-got}
 use Rattle.hbc_io.proofs.Plains.{plain-got, plain-is}
 use Rattle.hbc_buffer_literal.specs.Literal.{widthOf}
 use Rattle.hbc_buffer_literal.proofs.Laws.{width-none}
-use Rattle.hbc_buffer.specs.Fill.{byteAt, lengthOf}
+use Rattle.hbc_buffer.specs.Private.{byteAt, lengthOf}
 use Rattle.hbc_buffer.specs.Series.{Run, runOf, lengthAt, tagAt, headAt}
 
 -- ---- a tag, from its bytes

@@ -1,2 +1,2 @@
 pub mod Series
-pub mod Fill
+pub mod Private

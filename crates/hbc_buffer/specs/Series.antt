@@ -1,14 +1,16 @@
--- A literal series: runs of values behind tags.
+-- docs/FORMAT.md, section 5.3: a literal series, runs of values behind tags.
 use Prim.Native.Nat.{ℕ, zero, suc, _+_, _-_, _*_}
-use mathlib.Core.Path.{_≡_}
 use mathlib.Core.List.{List}
 use mathlib.Core.Bool.{cond}
-use lib.ListN.{length, set}
-use lib.Dec.{ltb, leb, eqb}
+use lib.ListN.{length}
+use lib.Dec.{leb, eqb}
 use Rattle.hbc_bits.specs.Bits.{field}
 use Rattle.hbc_io.specs.Outcome.{Outcome, got, refused, valued, andThen, cursorAt, refusal, refusalAt, limit}
+use Rattle.hbc_io.specs.Answer.{Answer, gives, refuses, refusedAt}
+use Rattle.hbc_io.specs.Lends.{below, choose, Lends}
 use Rattle.hbc_io.specs.Plain.{plainAt}
 use Rattle.hbc_io.specs.declared.Cursor.{Cursor}
+use Rattle.hbc_rows.specs.Rows.{filled}
 use Rattle.hbc_buffer_literal.specs.Literal.{widthOf, literalOf, kindOf}
 use Rattle.hbc_buffer.specs.declared.Series.{Series}
 use Rattle.hbc_buffer.specs.declared.Series.the-variants as series
@@ -68,37 +70,33 @@ kindAt = valueAt (λ t v. kindOf (literalOf t v))
 abbrev pub payloadAt : List ℕ → Cursor → ℕ → ℕ
 payloadAt = valueAt (λ t v. v)
 
--- a table whose first n entries are f's; all others stay
-unfoldable pub filled : ℕ → (ℕ → ℕ) → List ℕ → List ℕ
-filled zero f t = t
-filled (suc k) f t = set (filled k f t) k (f k)
-
 -- the bytes that the series at `offset` used, or its refusal
-abbrev pub usedOf : ℕ → Outcome Run → Series
-usedOf offset (got t n) = series.Used (n .at - offset)
-usedOf offset (refused r n) = series.Refused r
+abbrev pub usedOf : ℕ → Outcome Run → Answer ℕ
+usedOf offset (got t n) = gives (n .at - offset)
+usedOf offset (refused r n) = refuses r
 
 -- the answer: 1, count 0 is accepted at any offset, 7, 4, then 3 from the data
-unfoldable pub seriesAnswer : List ℕ → ℕ → ℕ → ℕ → ℕ → Series
+unfoldable pub seriesAnswer : List ℕ → ℕ → ℕ → ℕ → ℕ → Answer ℕ
 seriesAnswer s offset count kinds payloads =
-    cond (ltb limit (length s)) (series.Refused (refusal 1))
-    (cond (eqb count 0) (series.Used 0)
-    (cond (leb (length s) offset) (series.Refused (refusal 7))
-    (cond (ltb kinds count) (series.Refused (refusal 4))
-    (cond (ltb payloads count) (series.Refused (refusal 4))
+    below limit (length s) (refusedAt 1 0)
+    (choose (eqb count 0) (gives 0)
+    (choose (leb (length s) offset) (refusedAt 7 0)
+    (below kinds count (refusedAt 4 0)
+    (below payloads count (refusedAt 4 0)
     (usedOf offset (after count s (cursorAt offset)))))))
 
--- lent tables stay as they were where the series is refused
-abbrev pub written : Series → List ℕ → List ℕ → List ℕ
-written (series.Used n) new old = new
-written (series.Refused r) new old = old
+-- both tables with the values of the series in front: the kinds, and the payloads
+abbrev pub seriesTables : List ℕ → ℕ → ℕ → List ℕ → List ℕ → List ℕ × List ℕ
+seriesTables s offset count kinds payloads =
+    (filled (kindAt s (cursorAt offset)) count kinds, filled (payloadAt s (cursorAt offset)) count payloads)
 
--- what a call leaves in a lent table
-unfoldable pub tableAfter : Series → (ℕ → ℕ) → ℕ → List ℕ → List ℕ
-tableAfter r f count t = written r (filled count f t) t
+-- what each case of an answer says
+abbrev pub saysSeries : Series → Answer ℕ
+saysSeries (series.Used n) = gives n
+saysSeries (series.Refused r) = refuses r
 
 -- the promise: the answer, and every word of both tables
-pub record ReadSeries (s : List ℕ) (offset count : ℕ) (kinds payloads : List ℕ) (r : Series) (kinds′ payloads′ : List ℕ) : Type 0 where
-  pub says : r ≡ seriesAnswer s offset count (length kinds) (length payloads)
-  pub kinds-left : kinds′ ≡ tableAfter (seriesAnswer s offset count (length kinds) (length payloads)) (kindAt s (cursorAt offset)) count kinds
-  pub payloads-left : payloads′ ≡ tableAfter (seriesAnswer s offset count (length kinds) (length payloads)) (payloadAt s (cursorAt offset)) count payloads
+abbrev pub ReadSeries : List ℕ → ℕ → ℕ → List ℕ → List ℕ → Series → List ℕ → List ℕ → Type 0
+ReadSeries s offset count kinds payloads r kinds′ payloads′ =
+    Lends {W = List ℕ × List ℕ} saysSeries (seriesAnswer s offset count (length kinds) (length payloads))
+    (seriesTables s offset count kinds payloads) (kinds, payloads) r (kinds′, payloads′)

@@ -6,9 +6,10 @@ ghost use lib.ListN.{length};
 ghost use mathlib.Core.Bool.{true};
 ghost use Rattle.hbc_bits.specs.Bits.{leAt, field};
 ghost use Rattle.hbc_io.specs.Outcome.{cursorAt, limit};
+ghost use Rattle.hbc_rows.specs.Rows.{filled};
 ghost use Rattle.hbc_buffer_literal.specs.Literal.{widthOf, literalOf, kindOf};
-ghost use Rattle.hbc_buffer.specs.Series.{after, kindAt, payloadAt, filled, usedOf, ReadSeries};
-ghost use Rattle.hbc_buffer.specs.Fill.{byteAt, lengthOf, filledFrom, Whole};
+ghost use Rattle.hbc_buffer.specs.Series.{after, kindAt, payloadAt, usedOf, saysSeries, ReadSeries};
+ghost use Rattle.hbc_buffer.specs.Private.{byteAt, lengthOf, filledFrom, kindsFrom, payloadsFrom, Whole};
 use hbc_bits::bits;
 use hbc_buffer_literal::kind;
 use hbc_buffer_literal::read_payload;
@@ -91,7 +92,7 @@ fn again(
 // Reads `count` values run by run and writes nothing. A run takes one test, however long it is; tag byte, length and width of the last one are kept.
 fn check(s: &[u8], from: usize, count: usize) -> Series
     requires { ⌜ (length (now s) ≤ limit) × (from ≤ length (now s)) × (count < 2 ^ 32) ⌝ }
-    ensures { λ r. ⌜ r ≡ usedOf from (after count (now (s .entry)) (cursorAt from)) ⌝ }
+    ensures { λ r. ⌜ saysSeries r ≡ usedOf from (after count (now (s .entry)) (cursorAt from)) ⌝ }
 {
     let mut at = from;
     let mut done: usize = 0;
@@ -134,7 +135,7 @@ fn check(s: &[u8], from: usize, count: usize) -> Series
 // Entries `first` to `first + n - 1` of a table of kinds.
 fn fill_kinds(table: &mut [u32], first: usize, n: usize, k: u32)
     requires { ⌜ first + n ≤ length (now table) ⌝ }
-    ensures { λ _. ⌜ now (table .exit) ≡ filledFrom first n (λ _. k) (now (table .entry)) ⌝ }
+    ensures { λ _. ⌜ now (table .exit) ≡ kindsFrom k first n (now (table .entry)) ⌝ }
 {
     let mut i: usize = 0;
     while i < n {
@@ -157,7 +158,7 @@ fn payload(s: &[u8], at: usize, tag: u64) -> u64
 // The payloads of n values of one run, whose bytes start at `at`. Answers where they end.
 fn fill_payloads(s: &[u8], at: usize, tag: u64, table: &mut [u64], first: usize, n: usize) -> usize
     requires { ⌜ (length (now s) ≤ limit) × (at + n * widthOf tag ≤ length (now s)) × (first + n ≤ length (now table)) ⌝ }
-    ensures { λ r. ⌜ (r ≡ at + n * widthOf tag) × (now (table .exit) ≡ filledFrom first n (λ i. leAt (now (s .entry)) (at + i * widthOf tag) (widthOf tag)) (now (table .entry))) ⌝ }
+    ensures { λ r. ⌜ (r ≡ at + n * widthOf tag) × (now (table .exit) ≡ payloadsFrom (now (s .entry)) at (widthOf tag) first n (now (table .entry))) ⌝ }
 {
     let w = width(tag);
     let mut p = at;
@@ -173,7 +174,7 @@ fn fill_payloads(s: &[u8], at: usize, tag: u64, table: &mut [u64], first: usize,
 // The same with the width known in each loop.
 fn fill_run(s: &[u8], at: usize, tag: u64, table: &mut [u64], first: usize, n: usize) -> usize
     requires { ⌜ (length (now s) ≤ limit) × (at + n * widthOf tag ≤ length (now s)) × (first + n ≤ length (now table)) ⌝ }
-    ensures { λ r. ⌜ (r ≡ at + n * widthOf tag) × (now (table .exit) ≡ filledFrom first n (λ i. leAt (now (s .entry)) (at + i * widthOf tag) (widthOf tag)) (now (table .entry))) ⌝ }
+    ensures { λ r. ⌜ (r ≡ at + n * widthOf tag) × (now (table .exit) ≡ payloadsFrom (now (s .entry)) at (widthOf tag) first n (now (table .entry))) ⌝ }
 {
     match tag {
         3 => fill_payloads(s, at, 3, table, first, n),
@@ -207,9 +208,10 @@ fn fill_short(
     first: usize,
     n: usize,
 )
-    requires { ⌜ (length (now s) ≤ limit) × (at + n * w + 8 ≤ length (now s)) × (w ≤ 8) × (first + n ≤ length (now kinds)) × (first + n ≤ length (now payloads)) ⌝ }
-    ensures { λ _. ⌜ now (kinds .exit) ≡ filledFrom first n (λ _. k) (now (kinds .entry)) ⌝ }
-    ensures { λ _. ⌜ now (payloads .exit) ≡ filledFrom first n (λ i. leAt (now (s .entry)) (at + i * w) w) (now (payloads .entry)) ⌝ }
+    requires { ⌜ (length (now s) ≤ limit) × (at + n * w + 8 ≤ length (now s)) × (w ≤ 8)
+        × (first + n ≤ length (now kinds)) × (first + n ≤ length (now payloads)) ⌝ }
+    ensures { λ _. ⌜ now (kinds .exit) ≡ kindsFrom k first n (now (kinds .entry)) ⌝ }
+    ensures { λ _. ⌜ now (payloads .exit) ≡ payloadsFrom (now (s .entry)) at w first n (now (payloads .entry)) ⌝ }
 {
     let mut p = at;
     let mut i: usize = 0;
@@ -224,7 +226,7 @@ fn fill_short(
 // Both words of n values that have no bytes.
 fn fill_none(kinds: &mut [u32], payloads: &mut [u64], k: u32, first: usize, n: usize)
     requires { ⌜ (first + n ≤ length (now kinds)) × (first + n ≤ length (now payloads)) ⌝ }
-    ensures { λ _. ⌜ now (kinds .exit) ≡ filledFrom first n (λ _. k) (now (kinds .entry)) ⌝ }
+    ensures { λ _. ⌜ now (kinds .exit) ≡ kindsFrom k first n (now (kinds .entry)) ⌝ }
     ensures { λ _. ⌜ now (payloads .exit) ≡ filledFrom first n (λ _. 0) (now (payloads .entry)) ⌝ }
 {
     let mut i: usize = 0;
@@ -246,9 +248,10 @@ fn fill(
     first: usize,
     n: usize,
 )
-    requires { ⌜ (length (now s) ≤ limit) × (at + n * widthOf tag ≤ length (now s)) × (w ≡ widthOf tag) × (first + n ≤ length (now kinds)) × (first + n ≤ length (now payloads)) ⌝ }
-    ensures { λ _. ⌜ now (kinds .exit) ≡ filledFrom first n (λ _. kindOf (literalOf tag 0)) (now (kinds .entry)) ⌝ }
-    ensures { λ _. ⌜ now (payloads .exit) ≡ filledFrom first n (λ i. leAt (now (s .entry)) (at + i * widthOf tag) (widthOf tag)) (now (payloads .entry)) ⌝ }
+    requires { ⌜ (length (now s) ≤ limit) × (at + n * widthOf tag ≤ length (now s)) × (w ≡ widthOf tag)
+        × (first + n ≤ length (now kinds)) × (first + n ≤ length (now payloads)) ⌝ }
+    ensures { λ _. ⌜ now (kinds .exit) ≡ kindsFrom (kindOf (literalOf tag 0)) first n (now (kinds .entry)) ⌝ }
+    ensures { λ _. ⌜ now (payloads .exit) ≡ payloadsFrom (now (s .entry)) at (widthOf tag) first n (now (payloads .entry)) ⌝ }
 {
     let k = kind(tag);
     if n < 16 {
@@ -263,9 +266,10 @@ fn fill(
 
 // Writes the values of a series that is known to be whole.
 fn write(s: &[u8], from: usize, count: usize, kinds: &mut [u32], payloads: &mut [u64])
-    requires { ⌜ (length (now s) ≤ limit) × (from ≤ length (now s)) × (count < 2 ^ 32) × (count ≤ length (now kinds)) × (count ≤ length (now payloads)) × Whole count (now s) (cursorAt from) ⌝ }
-    ensures { λ _. ⌜ now (kinds .exit) ≡ filled count (kindAt (now (s .entry)) (cursorAt from)) (now (kinds .entry)) ⌝ }
-    ensures { λ _. ⌜ now (payloads .exit) ≡ filled count (payloadAt (now (s .entry)) (cursorAt from)) (now (payloads .entry)) ⌝ }
+    requires { ⌜ (length (now s) ≤ limit) × (from ≤ length (now s)) × (count < 2 ^ 32)
+        × (count ≤ length (now kinds)) × (count ≤ length (now payloads)) × Whole count (now s) (cursorAt from) ⌝ }
+    ensures { λ _. ⌜ now (kinds .exit) ≡ filled (kindAt (now (s .entry)) (cursorAt from)) count (now (kinds .entry)) ⌝ }
+    ensures { λ _. ⌜ now (payloads .exit) ≡ filled (payloadAt (now (s .entry)) (cursorAt from)) count (now (payloads .entry)) ⌝ }
 {
     let mut at = from;
     let mut done: usize = 0;

@@ -11,7 +11,7 @@ use lib.ListN.{length}
 use lib.Pow.{pow-mono}
 use lib.Ieee.{ofBits, binary64}
 use Rattle.hbc_bits.specs.Bits.{leAt}
-use Rattle.hbc_bits.specs.Laws.{Bytes}
+use Rattle.hbc_bits.proofs.Laws.{Bytes}
 use Rattle.hbc_io.specs.Outcome.{got, refused, valued, refusal, limit, left, twos}
 use Rattle.hbc_io.specs.Plain.{plainAt, bytesAt, spanOf}
 use Rattle.hbc_io.specs.declared.Cursor.{Cursor}

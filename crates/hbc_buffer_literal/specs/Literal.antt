@@ -1,4 +1,4 @@
--- One literal: what it is, by bits 4 to 6 of its tag and its bytes, and what the lent tables take for it.
+-- docs/FORMAT.md, sections 5.1 and 5.2: one literal, by bits 4 to 6 of its tag and its bytes, and what the lent tables take for it.
 use Prim.Native.Nat.{ℕ, suc, _-_, _^_}
 use mathlib.Core.List.{List}
 use mathlib.Core.Bool.{true, false, cond}
@@ -46,6 +46,6 @@ word32 (pos n) = n
 word32 (negsuc n) = 2 ^ 32 - suc n
 
 -- what each case of an answer says
-abbrev pub ofLiteral : ReadLiteral → Outcome Literal
-ofLiteral (read.Got v n) = got v n
-ofLiteral (read.Refused r n) = refused r n
+abbrev pub saysLiteral : ReadLiteral → Outcome Literal
+saysLiteral (read.Got v n) = got v n
+saysLiteral (read.Refused r n) = refused r n

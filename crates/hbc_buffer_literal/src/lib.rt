@@ -2,9 +2,9 @@
 ghost use mathlib.Core.Path.{_≡_};
 ghost use Prim.Native.Nat.{_<_, _^_};
 ghost use Rattle.hbc_bits.specs.Bits.{field};
-ghost use Rattle.hbc_io.specs.Answers.{ofU64};
+ghost use Rattle.hbc_io.specs.Answers.{saysU64};
 ghost use Rattle.hbc_io.specs.Plain.{plainAt};
-ghost use Rattle.hbc_buffer_literal.specs.Literal.{widthOf, literalOf, literalAt, kindOf, ofLiteral};
+ghost use Rattle.hbc_buffer_literal.specs.Literal.{widthOf, literalOf, literalAt, kindOf, saysLiteral};
 use hbc_bits::bits;
 use hbc_io::Cursor;
 use hbc_io::ReadF64;
@@ -66,7 +66,7 @@ pub fn kind(tag: u64) -> u32
 }
 
 fn none(s: &[u8], c: Cursor) -> ReadU64
-    ensures { λ r. ⌜ ofU64 r ≡ plainAt 0 (now (s .entry)) c ⌝ }
+    ensures { λ r. ⌜ saysU64 r ≡ plainAt 0 (now (s .entry)) c ⌝ }
 {
     match read_bytes(s, c, 0) {
         ReadSpan::Got(_, next) => ReadU64::Got(0, next),
@@ -75,7 +75,7 @@ fn none(s: &[u8], c: Cursor) -> ReadU64
 }
 
 fn wide_u8(s: &[u8], c: Cursor) -> ReadU64
-    ensures { λ r. ⌜ ofU64 r ≡ plainAt 1 (now (s .entry)) c ⌝ }
+    ensures { λ r. ⌜ saysU64 r ≡ plainAt 1 (now (s .entry)) c ⌝ }
 {
     match read_u8(s, c) {
         ReadU8::Got(v, next) => ReadU64::Got(v as u64, next),
@@ -84,7 +84,7 @@ fn wide_u8(s: &[u8], c: Cursor) -> ReadU64
 }
 
 fn wide_u16(s: &[u8], c: Cursor) -> ReadU64
-    ensures { λ r. ⌜ ofU64 r ≡ plainAt 2 (now (s .entry)) c ⌝ }
+    ensures { λ r. ⌜ saysU64 r ≡ plainAt 2 (now (s .entry)) c ⌝ }
 {
     match read_u16(s, c) {
         ReadU16::Got(v, next) => ReadU64::Got(v as u64, next),
@@ -93,7 +93,7 @@ fn wide_u16(s: &[u8], c: Cursor) -> ReadU64
 }
 
 fn wide_u32(s: &[u8], c: Cursor) -> ReadU64
-    ensures { λ r. ⌜ ofU64 r ≡ plainAt 4 (now (s .entry)) c ⌝ }
+    ensures { λ r. ⌜ saysU64 r ≡ plainAt 4 (now (s .entry)) c ⌝ }
 {
     match read_u32(s, c) {
         ReadU32::Got(v, next) => ReadU64::Got(v as u64, next),
@@ -103,7 +103,7 @@ fn wide_u32(s: &[u8], c: Cursor) -> ReadU64
 
 // The number of a value's bytes: what the lent table takes as its payload. A float that is no number keeps its own bits here.
 pub fn read_payload(s: &[u8], c: Cursor, tag: u64) -> ReadU64
-    ensures { λ r. ⌜ ofU64 r ≡ plainAt (widthOf tag) (now (s .entry)) c ⌝ }
+    ensures { λ r. ⌜ saysU64 r ≡ plainAt (widthOf tag) (now (s .entry)) c ⌝ }
 {
     match tag {
         3 => read_u64(s, c),
@@ -116,7 +116,7 @@ pub fn read_payload(s: &[u8], c: Cursor, tag: u64) -> ReadU64
 }
 
 fn number(s: &[u8], c: Cursor) -> ReadLiteral
-    ensures { λ r. ⌜ ofLiteral r ≡ literalAt 3 (now (s .entry)) c ⌝ }
+    ensures { λ r. ⌜ saysLiteral r ≡ literalAt 3 (now (s .entry)) c ⌝ }
 {
     match read_f64(s, c) {
         ReadF64::Got(x, next) => ReadLiteral::Got(Literal::Number(x), next),
@@ -125,7 +125,7 @@ fn number(s: &[u8], c: Cursor) -> ReadLiteral
 }
 
 fn integer(s: &[u8], c: Cursor) -> ReadLiteral
-    ensures { λ r. ⌜ ofLiteral r ≡ literalAt 7 (now (s .entry)) c ⌝ }
+    ensures { λ r. ⌜ saysLiteral r ≡ literalAt 7 (now (s .entry)) c ⌝ }
 {
     match read_i32(s, c) {
         ReadI32::Got(z, next) => ReadLiteral::Got(Literal::Integer(z), next),
@@ -148,7 +148,7 @@ fn worded(tag: u64, v: u64) -> Literal
 
 fn other(s: &[u8], c: Cursor, tag: u64) -> ReadLiteral
     requires { ⌜ (tag ≡ 3 → ⊥) × (tag ≡ 7 → ⊥) ⌝ }
-    ensures { λ r. ⌜ ofLiteral r ≡ literalAt tag (now (s .entry)) c ⌝ }
+    ensures { λ r. ⌜ saysLiteral r ≡ literalAt tag (now (s .entry)) c ⌝ }
 {
     match read_payload(s, c, tag) {
         ReadU64::Got(v, next) => ReadLiteral::Got(worded(tag, v), next),
@@ -157,7 +157,7 @@ fn other(s: &[u8], c: Cursor, tag: u64) -> ReadLiteral
 }
 
 fn by_tag(s: &[u8], c: Cursor, tag: u64) -> ReadLiteral
-    ensures { λ r. ⌜ ofLiteral r ≡ literalAt tag (now (s .entry)) c ⌝ }
+    ensures { λ r. ⌜ saysLiteral r ≡ literalAt tag (now (s .entry)) c ⌝ }
 {
     match tag {
         3 => number(s, c),
@@ -168,7 +168,7 @@ fn by_tag(s: &[u8], c: Cursor, tag: u64) -> ReadLiteral
 
 // The value at the cursor that a tag byte speaks of; only its bits 4 to 6 are looked at.
 pub fn read_literal(s: &[u8], c: Cursor, tag: u8) -> ReadLiteral
-    ensures { λ r. ⌜ ofLiteral r ≡ literalAt (field 4 3 tag) (now (s .entry)) c ⌝ }
+    ensures { λ r. ⌜ saysLiteral r ≡ literalAt (field 4 3 tag) (now (s .entry)) c ⌝ }
 {
     by_tag(s, c, bits(tag as u64, 4, 3))
 }

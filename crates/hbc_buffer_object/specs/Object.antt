@@ -1,15 +1,14 @@
--- An object's series.
+-- docs/FORMAT.md, section 5.4: an object's series, read from one of two lent buffers.
 use Prim.Native.Nat.{ℕ}
-use mathlib.Core.Path.{_≡_}
 use mathlib.Core.List.{List}
 use mathlib.Core.Bool.{Bool, cond}
 use lib.ListN.{length}
 use lib.Dec.{eqb}
-use Rattle.hbc_io.specs.Outcome.{refusalAt, cursorAt}
+use Rattle.hbc_io.specs.Outcome.{refusalAt}
+use Rattle.hbc_io.specs.Answer.{Answer, gives, refuses}
+use Rattle.hbc_io.specs.Lends.{Tells}
 use Rattle.hbc_io.specs.Plain.{spanOf, partOf}
-use Rattle.hbc_buffer.specs.declared.Series.{Series}
-use Rattle.hbc_buffer.specs.declared.Series.the-variants as series
-use Rattle.hbc_buffer.specs.Series.{seriesAnswer, kindAt, payloadAt, tableAfter}
+use Rattle.hbc_buffer.specs.Series.{seriesAnswer, seriesTables}
 use Rattle.hbc_buffer_object.specs.declared.Object.{Object}
 
 -- the caller names one by a yes or no: yes means keys
@@ -28,12 +27,20 @@ objectPart keys values o = bytesOf (named (o .«yes») keys values) (o .start) (
 abbrev pub startOf : ℕ → ℕ → ℕ
 startOf offset count = cond (eqb count 0) 0 offset
 
--- the answer: where the bytes of the series are; none if it is refused
-abbrev pub objectOf : Bool → ℕ → ℕ → Series → Object
-objectOf b offset count (series.Used n) = record { «yes» = b; start = startOf offset count; len = n; refusal = refusalAt 0 0 }
-objectOf b offset count (series.Refused r) = record { «yes» = b; start = 0; len = 0; refusal = r }
+-- the object of a series' answer: where the bytes of the series are; none if it is refused
+abbrev pub objectOf : Bool → ℕ → ℕ → Answer ℕ → Object
+objectOf b offset count (gives n) = record { «yes» = b; start = startOf offset count; len = n; refusal = refusalAt 0 0 }
+objectOf b offset count (refuses r) = record { «yes» = b; start = 0; len = 0; refusal = r }
 
-pub record ReadObject (keys values : List ℕ) (yes : Bool) (offset count : ℕ) (kinds payloads : List ℕ) (r : Object) (kinds′ payloads′ : List ℕ) : Type 0 where
-  pub says : r ≡ objectOf yes offset count (seriesAnswer (named yes keys values) offset count (length kinds) (length payloads))
-  pub kinds-left : kinds′ ≡ tableAfter (seriesAnswer (named yes keys values) offset count (length kinds) (length payloads)) (kindAt (named yes keys values) (cursorAt offset)) count kinds
-  pub payloads-left : payloads′ ≡ tableAfter (seriesAnswer (named yes keys values) offset count (length kinds) (length payloads)) (payloadAt (named yes keys values) (cursorAt offset)) count payloads
+-- what an object says: the bytes used, or a refusal, whose number is not 0
+abbrev pub saysObject : Object → Answer ℕ
+saysObject o = cond (eqb (o .refusal .number) 0) (gives (o .len)) (refuses (o .refusal))
+
+-- the promise: the object of the series in the buffer s that was named, and every word of both tables
+abbrev pub ObjectIn : List ℕ → Bool → ℕ → ℕ → List ℕ → List ℕ → Object → List ℕ → List ℕ → Type 0
+ObjectIn s b offset count kinds payloads r kinds′ payloads′ =
+    Tells {W = List ℕ × List ℕ} saysObject (λ (o : Object). o) (objectOf b offset count (seriesAnswer s offset count (length kinds) (length payloads)))
+    (seriesTables s offset count kinds payloads) (kinds, payloads) r (kinds′, payloads′)
+
+abbrev pub ReadObject : List ℕ → List ℕ → Bool → ℕ → ℕ → List ℕ → List ℕ → Object → List ℕ → List ℕ → Type 0
+ReadObject keys values b = ObjectIn (named b keys values) b

@@ -1,5 +1,6 @@
 // An object's series, after buffer.rs: key and value buffers that the caller lends, each with its own lifetime, one of them named by a yes or no.
 ghost use mathlib.Core.Path.{_≡_};
+ghost use Rattle.hbc_buffer.specs.Series.{saysSeries};
 ghost use Rattle.hbc_buffer_object.specs.Object.{named, bytesOf, objectPart, startOf, objectOf, ReadObject};
 use hbc_buffer::Series;
 use hbc_buffer::read_series;
@@ -48,7 +49,7 @@ fn start_of(offset: u32, count: u32) -> usize
 }
 
 fn object_of(yes: bool, offset: u32, count: u32, r: Series) -> Object
-    ensures { λ o. ⌜ o ≡ objectOf yes offset count r ⌝ }
+    ensures { λ o. ⌜ o ≡ objectOf yes offset count (saysSeries r) ⌝ }
 {
     match r {
         Series::Used(n) => Object {
@@ -76,7 +77,8 @@ pub fn read_object<'k, 'v>(
     kinds: &mut [u32],
     payloads: &mut [u64],
 ) -> Object
-    ensures { λ r. ⌜ ReadObject (now (keys .entry)) (now (values .entry)) yes offset count (now (kinds .entry)) (now (payloads .entry)) r (now (kinds .exit)) (now (payloads .exit)) ⌝ }
+    ensures { λ r. ⌜ ReadObject (now (keys .entry)) (now (values .entry)) yes offset count
+        (now (kinds .entry)) (now (payloads .entry)) r (now (kinds .exit)) (now (payloads .exit)) ⌝ }
 {
     if yes {
         return object_of(

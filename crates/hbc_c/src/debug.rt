@@ -1,8 +1,6 @@
-// The debug section. Accepted, the answer is 0 and the four counts are in the numbers lent for them; refused, those and the tables stay.
+// The debug section.
 ghost use Rattle.hbc_debug.specs.Debug.{tables};
-ghost use Rattle.hbc_c.specs.Debug.{counts, ToldDebug};
-use crate::code;
-use hbc_debug::ReadDebug;
+ghost use Rattle.hbc_c_debug.specs.Debug.{counts, ToldDebug};
 
 #[no_mangle]
 pub extern "C" fn hbc_read_debug(
@@ -17,16 +15,24 @@ pub extern "C" fn hbc_read_debug(
     name_count: &mut usize,
     callee_count: &mut usize,
 ) -> u64
-    ensures { λ r. ⌜ ToldDebug (now (file .entry)) offset (tables (now (strings .entry)) (now (scopes .entry)) (now (names .entry)) (now (callees .entry))) (counts (now («string_count» .entry)) (now («scope_count» .entry)) (now («name_count» .entry)) (now («callee_count» .entry))) r (tables (now (strings .exit)) (now (scopes .exit)) (now (names .exit)) (now (callees .exit))) (counts (now («string_count» .exit)) (now («scope_count» .exit)) (now («name_count» .exit)) (now («callee_count» .exit))) ⌝ }
+    ensures { λ r. ⌜
+        ToldDebug (now (file .entry)) offset (tables (now (strings .entry)) (now (scopes .entry)) (now (names .entry)) (now (callees .entry)))
+        (counts (now («string_count» .entry)) (now («scope_count» .entry)) (now («name_count» .entry)) (now («callee_count» .entry)))
+        r
+        (tables (now (strings .exit)) (now (scopes .exit)) (now (names .exit)) (now (callees .exit)))
+        (counts (now («string_count» .exit)) (now («scope_count» .exit)) (now («name_count» .exit)) (now («callee_count» .exit)))
+        ⌝ }
 {
-    match hbc_debug::read_debug(file, offset, strings, scopes, names, callees) {
-        ReadDebug::Read(k) => {
-            *string_count = k.strings;
-            *scope_count = k.scopes;
-            *name_count = k.names;
-            *callee_count = k.callees;
-            0
-        }
-        ReadDebug::Refused(r) => code(r),
-    }
+    hbc_c_debug::read_debug(
+        file,
+        offset,
+        strings,
+        scopes,
+        names,
+        callees,
+        string_count,
+        scope_count,
+        name_count,
+        callee_count,
+    )
 }

@@ -5,221 +5,114 @@ ghost use Rattle.hbc_bits.specs.Bits.{field};
 ghost use Rattle.hbc_io.specs.Outcome.{cursorAt, left, valued, twos};
 ghost use Rattle.hbc_io.specs.Plain.{plainAt, seekTo, alignTo, bytesAt};
 ghost use Rattle.hbc_io_leb.specs.Leb.{lebBytes, unsignedOf, signedOf};
-ghost use Rattle.hbc_io_text.specs.Text.{zeroEnded, prefixed};
-ghost use Rattle.hbc_c.specs.Io.{Moves, Told, ToldSpan};
-use crate::code;
-use hbc_io::Cursor;
-use hbc_io::Moved;
-use hbc_io::ReadF64;
-use hbc_io::ReadI8;
-use hbc_io::ReadI32;
-use hbc_io::ReadSpan;
-use hbc_io::ReadU8;
-use hbc_io::ReadU16;
-use hbc_io::ReadU32;
-use hbc_io::ReadU64;
-use hbc_io_leb::ReadSleb;
-use hbc_io_leb::ReadUleb;
+ghost use Rattle.hbc_io_strings.specs.Text.{zeroEnded, prefixed};
+ghost use Rattle.hbc_c_code.specs.Told.{Moves, Reads};
+ghost use Rattle.hbc_c_io.specs.Io.{ReadsSpan};
 
 #[no_mangle]
 pub extern "C" fn hbc_bits(word: u64, first: u32, width: u32) -> u64
     ensures { λ r. ⌜ r ≡ field first width word ⌝ }
 {
-    hbc_bits::bits(word, first, width)
+    hbc_c_io::bits(word, first, width)
 }
 
 #[no_mangle]
 pub extern "C" fn hbc_remaining(s: &[u8], at: usize) -> usize
     ensures { λ r. ⌜ r ≡ left (now (s .entry)) (cursorAt at) ⌝ }
 {
-    hbc_io::remaining(s, Cursor { at })
+    hbc_c_io::remaining(s, at)
 }
 
 #[no_mangle]
 pub extern "C" fn hbc_seek(s: &[u8], at: &mut usize, to: usize) -> u64
     ensures { λ r. ⌜ Moves (seekTo (now (s .entry)) (cursorAt (now (at .entry))) to) r (now (at .exit)) ⌝ }
 {
-    match hbc_io::seek(s, Cursor { at: *at }, to) {
-        Moved::To(next) => {
-            *at = next.at;
-            0
-        }
-        Moved::Refused(r, stays) => {
-            *at = stays.at;
-            code(r)
-        }
-    }
+    hbc_c_io::seek(s, at, to)
 }
 
 #[no_mangle]
 pub extern "C" fn hbc_align(s: &[u8], at: &mut usize, alignment: usize) -> u64
     ensures { λ r. ⌜ Moves (alignTo (now (s .entry)) (cursorAt (now (at .entry))) alignment) r (now (at .exit)) ⌝ }
 {
-    match hbc_io::align(s, Cursor { at: *at }, alignment) {
-        Moved::To(next) => {
-            *at = next.at;
-            0
-        }
-        Moved::Refused(r, stays) => {
-            *at = stays.at;
-            code(r)
-        }
-    }
+    hbc_c_io::align(s, at, alignment)
 }
 
 #[no_mangle]
 pub extern "C" fn hbc_read_u8(s: &[u8], at: &mut usize, value: &mut u8) -> u64
-    ensures { λ r. ⌜ Told (plainAt 1 (now (s .entry)) (cursorAt (now (at .entry)))) (now (value .entry)) r (now (at .exit)) (now (value .exit)) ⌝ }
+    ensures { λ r. ⌜ Reads (plainAt 1 (now (s .entry)) (cursorAt (now (at .entry)))) (now (value .entry)) r (now (at .exit)) (now (value .exit)) ⌝ }
 {
-    match hbc_io::read_u8(s, Cursor { at: *at }) {
-        ReadU8::Got(v, next) => {
-            *value = v;
-            *at = next.at;
-            0
-        }
-        ReadU8::Refused(r, stays) => {
-            *at = stays.at;
-            code(r)
-        }
-    }
+    hbc_c_io::read_u8(s, at, value)
 }
 
 #[no_mangle]
 pub extern "C" fn hbc_read_i8(s: &[u8], at: &mut usize, value: &mut i8) -> u64
-    ensures { λ r. ⌜ Told (valued (twos 8) (plainAt 1 (now (s .entry)) (cursorAt (now (at .entry))))) (now (value .entry)) r (now (at .exit)) (now (value .exit)) ⌝ }
+    ensures { λ r. ⌜
+        Reads (valued (twos 8) (plainAt 1 (now (s .entry)) (cursorAt (now (at .entry))))) (now (value .entry))
+        r (now (at .exit)) (now (value .exit))
+        ⌝ }
 {
-    match hbc_io::read_i8(s, Cursor { at: *at }) {
-        ReadI8::Got(v, next) => {
-            *value = v;
-            *at = next.at;
-            0
-        }
-        ReadI8::Refused(r, stays) => {
-            *at = stays.at;
-            code(r)
-        }
-    }
+    hbc_c_io::read_i8(s, at, value)
 }
 
 #[no_mangle]
 pub extern "C" fn hbc_read_u16(s: &[u8], at: &mut usize, value: &mut u16) -> u64
-    ensures { λ r. ⌜ Told (plainAt 2 (now (s .entry)) (cursorAt (now (at .entry)))) (now (value .entry)) r (now (at .exit)) (now (value .exit)) ⌝ }
+    ensures { λ r. ⌜ Reads (plainAt 2 (now (s .entry)) (cursorAt (now (at .entry)))) (now (value .entry)) r (now (at .exit)) (now (value .exit)) ⌝ }
 {
-    match hbc_io::read_u16(s, Cursor { at: *at }) {
-        ReadU16::Got(v, next) => {
-            *value = v;
-            *at = next.at;
-            0
-        }
-        ReadU16::Refused(r, stays) => {
-            *at = stays.at;
-            code(r)
-        }
-    }
+    hbc_c_io::read_u16(s, at, value)
 }
 
 #[no_mangle]
 pub extern "C" fn hbc_read_u32(s: &[u8], at: &mut usize, value: &mut u32) -> u64
-    ensures { λ r. ⌜ Told (plainAt 4 (now (s .entry)) (cursorAt (now (at .entry)))) (now (value .entry)) r (now (at .exit)) (now (value .exit)) ⌝ }
+    ensures { λ r. ⌜ Reads (plainAt 4 (now (s .entry)) (cursorAt (now (at .entry)))) (now (value .entry)) r (now (at .exit)) (now (value .exit)) ⌝ }
 {
-    match hbc_io::read_u32(s, Cursor { at: *at }) {
-        ReadU32::Got(v, next) => {
-            *value = v;
-            *at = next.at;
-            0
-        }
-        ReadU32::Refused(r, stays) => {
-            *at = stays.at;
-            code(r)
-        }
-    }
+    hbc_c_io::read_u32(s, at, value)
 }
 
 #[no_mangle]
 pub extern "C" fn hbc_read_u64(s: &[u8], at: &mut usize, value: &mut u64) -> u64
-    ensures { λ r. ⌜ Told (plainAt 8 (now (s .entry)) (cursorAt (now (at .entry)))) (now (value .entry)) r (now (at .exit)) (now (value .exit)) ⌝ }
+    ensures { λ r. ⌜ Reads (plainAt 8 (now (s .entry)) (cursorAt (now (at .entry)))) (now (value .entry)) r (now (at .exit)) (now (value .exit)) ⌝ }
 {
-    match hbc_io::read_u64(s, Cursor { at: *at }) {
-        ReadU64::Got(v, next) => {
-            *value = v;
-            *at = next.at;
-            0
-        }
-        ReadU64::Refused(r, stays) => {
-            *at = stays.at;
-            code(r)
-        }
-    }
+    hbc_c_io::read_u64(s, at, value)
 }
 
 #[no_mangle]
 pub extern "C" fn hbc_read_i32(s: &[u8], at: &mut usize, value: &mut i32) -> u64
-    ensures { λ r. ⌜ Told (valued (twos 32) (plainAt 4 (now (s .entry)) (cursorAt (now (at .entry))))) (now (value .entry)) r (now (at .exit)) (now (value .exit)) ⌝ }
+    ensures { λ r. ⌜
+        Reads (valued (twos 32) (plainAt 4 (now (s .entry)) (cursorAt (now (at .entry))))) (now (value .entry))
+        r (now (at .exit)) (now (value .exit))
+        ⌝ }
 {
-    match hbc_io::read_i32(s, Cursor { at: *at }) {
-        ReadI32::Got(v, next) => {
-            *value = v;
-            *at = next.at;
-            0
-        }
-        ReadI32::Refused(r, stays) => {
-            *at = stays.at;
-            code(r)
-        }
-    }
+    hbc_c_io::read_i32(s, at, value)
 }
 
 #[no_mangle]
 pub extern "C" fn hbc_read_f64(s: &[u8], at: &mut usize, value: &mut f64) -> u64
-    ensures { λ r. ⌜ Told (valued (ofBits binary64) (plainAt 8 (now (s .entry)) (cursorAt (now (at .entry))))) (now (value .entry)) r (now (at .exit)) (now (value .exit)) ⌝ }
+    ensures { λ r. ⌜
+        Reads (valued (ofBits binary64) (plainAt 8 (now (s .entry)) (cursorAt (now (at .entry))))) (now (value .entry))
+        r (now (at .exit)) (now (value .exit))
+        ⌝ }
 {
-    match hbc_io::read_f64(s, Cursor { at: *at }) {
-        ReadF64::Got(v, next) => {
-            *value = v;
-            *at = next.at;
-            0
-        }
-        ReadF64::Refused(r, stays) => {
-            *at = stays.at;
-            code(r)
-        }
-    }
+    hbc_c_io::read_f64(s, at, value)
 }
 
 #[no_mangle]
 pub extern "C" fn hbc_read_uleb128(s: &[u8], at: &mut usize, value: &mut u64) -> u64
-    ensures { λ r. ⌜ Told (valued unsignedOf (lebBytes (now (s .entry)) (cursorAt (now (at .entry))))) (now (value .entry)) r (now (at .exit)) (now (value .exit)) ⌝ }
+    ensures { λ r. ⌜
+        Reads (valued unsignedOf (lebBytes (now (s .entry)) (cursorAt (now (at .entry))))) (now (value .entry))
+        r (now (at .exit)) (now (value .exit))
+        ⌝ }
 {
-    match hbc_io_leb::read_uleb128(s, Cursor { at: *at }) {
-        ReadUleb::Got(v, next) => {
-            let n = v.value;
-            *value = n;
-            *at = next.at;
-            0
-        }
-        ReadUleb::Refused(r, stays) => {
-            *at = stays.at;
-            code(r)
-        }
-    }
+    hbc_c_io::read_uleb128(s, at, value)
 }
 
 #[no_mangle]
 pub extern "C" fn hbc_read_sleb128(s: &[u8], at: &mut usize, value: &mut i64) -> u64
-    ensures { λ r. ⌜ Told (valued signedOf (lebBytes (now (s .entry)) (cursorAt (now (at .entry))))) (now (value .entry)) r (now (at .exit)) (now (value .exit)) ⌝ }
+    ensures { λ r. ⌜
+        Reads (valued signedOf (lebBytes (now (s .entry)) (cursorAt (now (at .entry))))) (now (value .entry))
+        r (now (at .exit)) (now (value .exit))
+        ⌝ }
 {
-    match hbc_io_leb::read_sleb128(s, Cursor { at: *at }) {
-        ReadSleb::Got(v, next) => {
-            let n = v.value;
-            *value = n;
-            *at = next.at;
-            0
-        }
-        ReadSleb::Refused(r, stays) => {
-            *at = stays.at;
-            code(r)
-        }
-    }
+    hbc_c_io::read_sleb128(s, at, value)
 }
 
 #[no_mangle]
@@ -230,20 +123,12 @@ pub extern "C" fn hbc_read_bytes(
     start: &mut usize,
     size: &mut usize,
 ) -> u64
-    ensures { λ r. ⌜ ToldSpan (bytesAt len (now (s .entry)) (cursorAt (now (at .entry)))) (now (start .entry)) (now (size .entry)) r (now (at .exit)) (now (start .exit)) (now (size .exit)) ⌝ }
+    ensures { λ r. ⌜
+        ReadsSpan (bytesAt len (now (s .entry)) (cursorAt (now (at .entry)))) (now (start .entry)) (now (size .entry))
+        r (now (at .exit)) (now (start .exit)) (now (size .exit))
+        ⌝ }
 {
-    match hbc_io::read_bytes(s, Cursor { at: *at }, len) {
-        ReadSpan::Got(p, next) => {
-            *start = p.start;
-            *size = p.len;
-            *at = next.at;
-            0
-        }
-        ReadSpan::Refused(r, stays) => {
-            *at = stays.at;
-            code(r)
-        }
-    }
+    hbc_c_io::read_bytes(s, at, len, start, size)
 }
 
 #[no_mangle]
@@ -253,20 +138,12 @@ pub extern "C" fn hbc_read_cstring(
     start: &mut usize,
     size: &mut usize,
 ) -> u64
-    ensures { λ r. ⌜ ToldSpan (zeroEnded (now (s .entry)) (cursorAt (now (at .entry)))) (now (start .entry)) (now (size .entry)) r (now (at .exit)) (now (start .exit)) (now (size .exit)) ⌝ }
+    ensures { λ r. ⌜
+        ReadsSpan (zeroEnded (now (s .entry)) (cursorAt (now (at .entry)))) (now (start .entry)) (now (size .entry))
+        r (now (at .exit)) (now (start .exit)) (now (size .exit))
+        ⌝ }
 {
-    match hbc_io_text::read_cstring(s, Cursor { at: *at }) {
-        ReadSpan::Got(p, next) => {
-            *start = p.start;
-            *size = p.len;
-            *at = next.at;
-            0
-        }
-        ReadSpan::Refused(r, stays) => {
-            *at = stays.at;
-            code(r)
-        }
-    }
+    hbc_c_io::read_cstring(s, at, start, size)
 }
 
 #[no_mangle]
@@ -276,18 +153,10 @@ pub extern "C" fn hbc_read_length_prefixed_string(
     start: &mut usize,
     size: &mut usize,
 ) -> u64
-    ensures { λ r. ⌜ ToldSpan (prefixed (now (s .entry)) (cursorAt (now (at .entry)))) (now (start .entry)) (now (size .entry)) r (now (at .exit)) (now (start .exit)) (now (size .exit)) ⌝ }
+    ensures { λ r. ⌜
+        ReadsSpan (prefixed (now (s .entry)) (cursorAt (now (at .entry)))) (now (start .entry)) (now (size .entry))
+        r (now (at .exit)) (now (start .exit)) (now (size .exit))
+        ⌝ }
 {
-    match hbc_io_text::read_length_prefixed_string(s, Cursor { at: *at }) {
-        ReadSpan::Got(p, next) => {
-            *start = p.start;
-            *size = p.len;
-            *at = next.at;
-            0
-        }
-        ReadSpan::Refused(r, stays) => {
-            *at = stays.at;
-            code(r)
-        }
-    }
+    hbc_c_io::read_length_prefixed_string(s, at, start, size)
 }

@@ -1,27 +1,11 @@
-// The calls of hbc_table, hbc_table_strings and hbc_table_bytes. The cursor goes in and comes back at `at`.
-ghost use Rattle.hbc_io.specs.Outcome.{cursorAt};
-ghost use Rattle.hbc_table.specs.Table.{tableAt};
-ghost use Rattle.hbc_c.specs.Io.{Told};
-ghost use Rattle.hbc_c.specs.Table.{ToldStrings, ToldPart};
-use crate::code;
-use hbc_io::Cursor;
-use hbc_io::Moved;
-use hbc_table_strings::Decoded;
+// The calls on string tables.
+ghost use Rattle.hbc_c_table.specs.Table.{ToldTable, ToldStrings, ToldPart};
 
 #[no_mangle]
 pub extern "C" fn hbc_read_u32_table(s: &[u8], at: &mut usize, count: u32, table: &mut [u32]) -> u64
-    ensures { λ r. ⌜ Told (tableAt 1 (now (s .entry)) (cursorAt (now (at .entry))) count (now (table .entry))) (now (table .entry)) r (now (at .exit)) (now (table .exit)) ⌝ }
+    ensures { λ r. ⌜ ToldTable 1 (now (s .entry)) (now (at .entry)) count (now (table .entry)) r (now (at .exit)) (now (table .exit)) ⌝ }
 {
-    match hbc_table::read_u32_table(s, Cursor { at: *at }, count, table) {
-        Moved::To(next) => {
-            *at = next.at;
-            0
-        }
-        Moved::Refused(r, stays) => {
-            *at = stays.at;
-            code(r)
-        }
-    }
+    hbc_c_table::read_u32_table(s, at, count, table)
 }
 
 #[no_mangle]
@@ -31,18 +15,9 @@ pub extern "C" fn hbc_read_pair_table(
     count: u32,
     table: &mut [u32],
 ) -> u64
-    ensures { λ r. ⌜ Told (tableAt 2 (now (s .entry)) (cursorAt (now (at .entry))) count (now (table .entry))) (now (table .entry)) r (now (at .exit)) (now (table .exit)) ⌝ }
+    ensures { λ r. ⌜ ToldTable 2 (now (s .entry)) (now (at .entry)) count (now (table .entry)) r (now (at .exit)) (now (table .exit)) ⌝ }
 {
-    match hbc_table::read_pair_table(s, Cursor { at: *at }, count, table) {
-        Moved::To(next) => {
-            *at = next.at;
-            0
-        }
-        Moved::Refused(r, stays) => {
-            *at = stays.at;
-            code(r)
-        }
-    }
+    hbc_c_table::read_pair_table(s, at, count, table)
 }
 
 // Accepted, the answer is the number of rows written.
@@ -55,12 +30,12 @@ pub extern "C" fn hbc_decode_strings(
     storage: &[u8],
     rows: &mut [u32],
 ) -> u64
-    ensures { λ r. ⌜ ToldStrings count (now (kinds .entry)) (now (small .entry)) (now (overflow .entry)) (now (storage .entry)) (now (rows .entry)) r (now (rows .exit)) ⌝ }
+    ensures { λ r. ⌜
+        ToldStrings count (now (kinds .entry)) (now (small .entry)) (now (overflow .entry)) (now (storage .entry)) (now (rows .entry))
+        r (now (rows .exit))
+        ⌝ }
 {
-    match hbc_table_strings::decode_strings(count, kinds, small, overflow, storage, rows) {
-        Decoded::Rows(n) => n as u64,
-        Decoded::Refused(r) => code(r),
-    }
+    hbc_c_table::decode_strings(count, kinds, small, overflow, storage, rows)
 }
 
 // A part does not cross the boundary: the caller takes it out of the storage by its start and length.
@@ -74,7 +49,5 @@ pub extern "C" fn hbc_string_bytes(
 )
     ensures { λ _. ⌜ ToldPart (now (storage .entry)) (now (rows .entry)) index (now (start .exit)) (now (len .exit)) ⌝ }
 {
-    let p = hbc_table_bytes::string_span(storage, rows, index);
-    *start = p.start;
-    *len = p.len;
+    hbc_c_table::string_bytes(storage, rows, index, start, len)
 }

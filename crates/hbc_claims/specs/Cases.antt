@@ -1,43 +1,35 @@
--- The worked cases of document 01 that are proved, P1 to P10, in one list under one statement. A case is any statement over the promises' definitions.
+-- docs/FORMAT.md, section 10.1: the worked cases that are proved, P1 to P10, in one list under one statement. A case is any statement over the promises'
+-- definitions.
 use Prim.Native.Nat.{ℕ}
-use mathlib.Core.Path.{_≡_, refl}
+use mathlib.Core.Path.{_≡_}
 use mathlib.Core.List.{List, [], _∷_, _++_}
 use lib.IntN.{pos, negsuc}
-use lib.ListN.{replicate}
-use lib.Bits.{or-shifted}
-use lib.Dec.{lit<}
-use Rattle.hbc_claims_law.specs.Law.{All}
+use lib.ListN.{length, replicate}
 use Rattle.hbc_claims_function.specs.Packed.{legacy, modern, legacyZeros, modernZeros}
-use Rattle.hbc_bits.specs.Bits.{leAt, field}
 use Rattle.hbc_io.specs.Outcome.{got, valued, cursorAt}
-use Rattle.hbc_io.specs.Plain.{plainAt}
+use Rattle.hbc_io.specs.Answer.{gives, refusedAt}
+use Rattle.hbc_io.specs.Lends.{written}
 use Rattle.hbc_io_leb.specs.Leb.{lebBytes, signedOf}
-use Rattle.hbc_header.specs.declared.Layout.the-variants.{Legacy16, Modern12}
-use Rattle.hbc_header.specs.declared.Record.the-variants as rec
-use Rattle.hbc_header.specs.Answer.{gives, refusedAt}
-use Rattle.hbc_header.specs.Record.{legacyOf, modernOf, legacyLarge, modernLarge, overflowed, legacyPlace, modernPlace}
-use Rattle.hbc_header.specs.Header.{groundBy, legacyGround, modernGround, whereOf, legacyWhere, modernWhere, legacyAt, modernAt, functionAt, readFunction}
-use Rattle.hbc_rows.specs.Rows.{entryAt, putRow, putRows}
-use Rattle.hbc_table_strings.specs.declared.Decoded.the-variants.{Rows}
-use Rattle.hbc_table_strings.specs.Kinds.{runKind, holding, movedOn, heldAt, kindOf}
-use Rattle.hbc_table_strings.specs.Strings.{longOne, pairsTaken, pairTaken, lacksPair, pairAt, entryOf, bytesOf, rowFor, rowWith, rowOf, scan, lesser, decodeAnswer, decodedTable}
-use Rattle.hbc_buffer_literal.specs.Literal.{widthOf, literalOf}
-use Rattle.hbc_buffer.specs.declared.Series.the-variants.{Used}
-use Rattle.hbc_buffer.specs.Series.{tagAt, headAt, runAt, step, after, valueAt, kindAt, payloadAt, filled, seriesAnswer, tableAfter}
+use Rattle.hbc_function_record.specs.declared.Layout.the-variants.{Legacy16, Modern12}
+use Rattle.hbc_function_record.specs.declared.Record.the-variants as rec
+use Rattle.hbc_function_record.specs.Record.{legacyPlace, modernPlace}
+use Rattle.hbc_function_header.specs.Header.{readFunction}
+use Rattle.hbc_table_strings.specs.Strings.{lesser, decodeAnswer, decodedRows}
+use Rattle.hbc_buffer.specs.Series.{seriesAnswer, seriesTables}
 
 -- function 0 of the table at 0 (P1, P2, P5) is answered by `readFunction`, the packed place of a record (P3, P4) by `legacyPlace` and `modernPlace`
 
 -- so many strings of these runs and small entries, no pairs, storage of four bytes, over a lent table: the answer, and the table afterwards
 abbrev pub Decodes : ℕ → List ℕ → List ℕ → List ℕ → List ℕ → Type 0
 Decodes count kinds small before after =
-    (decodeAnswer count small [] (replicate 4 0) before ≡ Rows count) × (decodedTable count kinds small [] (replicate 4 0) before ≡ after)
+    (decodeAnswer count small [] (replicate 4 0) before ≡ gives count)
+    × (written (decodeAnswer count small [] (replicate 4 0) before) (decodedRows kinds small [] 4 (lesser count (length small)) before) before ≡ after)
 
 -- a buffer, read from its first byte into two tables of as many zeros as values: the bytes used, the kinds, the payloads
 abbrev pub Reads : List ℕ → ℕ → ℕ → List ℕ → List ℕ → Type 0
 Reads s count used kinds payloads =
-    (seriesAnswer s 0 count count count ≡ Used used)
-    × (tableAfter (Used used) (kindAt s (cursorAt 0)) count (replicate count 0) ≡ kinds)
-    × (tableAfter (Used used) (payloadAt s (cursorAt 0)) count (replicate count 0) ≡ payloads)
+    (seriesAnswer s 0 count count count ≡ gives used)
+    × (_≡_ {A = List ℕ × List ℕ} (seriesTables s 0 count (replicate count 0) (replicate count 0)) (kinds, payloads))
 
 abbrev pub cases : List {1} (Type 0)
 cases =
@@ -68,8 +60,3 @@ cases =
     ∷ (valued signedOf (lebBytes (0x40 ∷ []) (cursorAt 0)) ≡ got (negsuc 63) (cursorAt 1))
     ∷ (valued signedOf (lebBytes (replicate 9 0x80 ++ (0x02 ∷ [])) (cursorAt 0)) ≡ got (pos 0) (cursorAt 10))
     ∷ []
-
-pub hold : All cases
-unfolding readFunction functionAt legacyAt modernAt legacyWhere modernWhere whereOf legacyGround modernGround groundBy legacyOf modernOf legacyLarge modernLarge legacyPlace modernPlace leAt field overflowed decodeAnswer lesser scan lacksPair rowOf rowWith rowFor entryOf bytesOf longOne pairsTaken pairTaken pairAt kindOf runKind movedOn heldAt holding entryAt putRow putRows seriesAnswer tableAfter filled valueAt after step runAt headAt tagAt plainAt widthOf literalOf lebBytes
-hold =
-    (refl, (refl, (refl, (or-shifted 1 24 32 (lit< tt), (refl, (refl, (refl, (refl, ((refl, refl), ((refl, refl), ((refl, refl), ((refl, refl, refl), ((refl, refl, refl), (refl, (refl, (refl, tt))))))))))))))))

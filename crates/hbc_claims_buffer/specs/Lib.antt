@@ -1,4 +1,4 @@
 pub mod Unique
 pub mod Refused
-pub mod Fuel
-pub mod Within
+pub mod Used
+pub mod Tags

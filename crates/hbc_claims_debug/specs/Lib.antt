@@ -1,5 +1,5 @@
-pub mod Unique
-pub mod Fuel
-pub mod Leaves
-pub mod Rising
+pub mod AllRead
+pub mod Callees
 pub mod Cases
+pub mod Left
+pub mod Unique

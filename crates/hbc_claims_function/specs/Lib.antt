@@ -1,10 +1,8 @@
 pub mod Agree
-pub mod Function
-pub mod Words
-pub mod Scans
-pub mod Accepted
+pub mod Rows
 pub mod Meeting
+pub mod Accepted
 pub mod Tables
-pub mod Demand3
+pub mod Refreshed
 pub mod Packed
 pub mod Unique

@@ -1,4 +1,4 @@
 pub mod Leb128
-pub mod Refused
-pub mod Unique
+pub mod Left
 pub mod Reader
+pub mod Unique

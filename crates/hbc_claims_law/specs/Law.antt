@@ -1,6 +1,6 @@
--- What uniqueness says of a call, whatever the call: two outcomes that both meet its contract are equal. A contract L is the checker's own, of the
--- lifetimes K, the arguments A, the answer R, and all parameters E as the call leaves them.
-use mathlib.Core.Path.{_≡_, sym, _∙_}
+-- docs/FORMAT.md, section 1.6: what uniqueness says of a call, whatever the call: two outcomes that both meet its contract are equal. A contract L is
+-- the checker's own, of the lifetimes K, the arguments A, the answer R, and all parameters E as the call leaves them.
+use mathlib.Core.Path.{_≡_}
 use mathlib.Core.List.{List, [], _∷_}
 
 -- one value for whatever f takes of the answer and of what is left
@@ -31,8 +31,8 @@ Both3 {K} {A} {R} {E} L w x y =
     (k : K) (a : A) (r q : R) (s u : E) → L k a r s → L k a q u → (r ≡ q) × (w s ≡ w u) × (x s ≡ x u) × (y s ≡ y u)
 
 -- the law behind them all: what equals one thing is one thing
-pub same : {A : Type 0} {x r q : A} → r ≡ x → q ≡ x → r ≡ q
-same e f = e ∙ sym f
+abbrev pub OneThing : {A : Type 0} → A → A → A → Type 0
+OneThing x r q = r ≡ x → q ≡ x → r ≡ q
 
 -- all of a list of statements
 abbrev pub All : List {1} (Type 0) → Type 0

@@ -1,13 +1,7 @@
--- An answer that is chosen by tests one after another, each of which may refuse: what it says of the tests.
-use mathlib.Core.Path.{_≡_, refl}
-use mathlib.Core.Bool.{Bool, true, false, cond}
+-- docs/FORMAT.md, section 1.2: an answer that is chosen by tests one after another, each of which may refuse: what it says of the tests.
+use mathlib.Core.Path.{_≡_}
+use mathlib.Core.Bool.{Bool, false, cond}
 
--- a test whose own answer it was not is past
-pub past : {A : Type 0} {x o z : A} → (x ≡ z → ⊥) → (b : Bool) → cond b x o ≡ z → (b ≡ false) × (o ≡ z)
-past n true e = absurd (n e)
-past n false e = (refl, e)
-
--- what holds if it was the test's own answer, and if it was a later one, holds
-pub either : {A P : Type 0} {x o z : A} → (b : Bool) → cond b x o ≡ z → (x ≡ z → P) → (o ≡ z → P) → P
-either true e f g = f e
-either false e f g = g e
+-- a test b whose own answer x it was not is past, and a later one, o, it was
+abbrev pub Passed : {A : Type 0} → Bool → A → A → A → Type 0
+Passed b x o z = cond b x o ≡ z → (b ≡ false) × (o ≡ z)

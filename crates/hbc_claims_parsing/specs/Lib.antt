@@ -1,4 +1,4 @@
 pub mod Cases
 pub mod Unique
-pub mod Shown
-pub mod Pairs
+pub mod HandlerRows
+pub mod SectionPairs

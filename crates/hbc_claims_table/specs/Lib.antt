@@ -1,3 +1,3 @@
 pub mod Unique
-pub mod Tables
-pub mod Strings
+pub mod Left
+pub mod Within

@@ -1,1 +1,1 @@
-// No code: what the calls on lent tables and strings promise. The theorems stand in specs/.
+// No code: what the calls on lent tables and strings promise. The statements stand in specs/, their proofs in proofs/.

@@ -1,28 +1,36 @@
--- The parts lie in the file.
+-- The parts lie in the file; and the two ends of the call on the file.
 use mathlib.Core.Path.{_≡_, refl, sym, ap, _∙_}
 use mathlib.Core.Bool.{Bool, true, false, cond}
 use mathlib.Core.List.{List, []}
-use Prim.Native.Nat.{ℕ, _+_, _-_, _≤_, _<_}
+use Prim.Native.Nat.{ℕ, _+_, _-_, _≤_}
 use native.Mathlib.Omega.{arith}
-use borrow.Author.Tests.{ltb-false, leb-false}
-use lib.Dec.{ltb, leb, eqb}
+use borrow.Author.Tests.{ltb-false}
+use lib.Dec.{ltb}
 use lib.ListN.{length, take, drop, length-take}
-use Rattle.hbc_io.specs.Outcome.{limit, refusal}
+use Rattle.hbc_io.specs.Outcome.{limit}
 use Rattle.hbc_io.specs.Plain.{partOf, spanOf}
-use Rattle.hbc_debug_parts.specs.Parts.{partAt, partsIn, partsOf, isEmpty, headerAt, headerSize, dataStart, dataEnd, scopesAt, calleesAt, stringsAt, noPart, noParts, bytesOf}
-use Rattle.hbc_debug_parts.specs.declared.InFile.{InFile}
+use Rattle.hbc_io.specs.Answer.{Answer, gives, refuses, refusedAt, andThen}
+use Rattle.hbc_io.specs.Lends.{below, choose, written}
+use Rattle.hbc_io.specs.declared.Refusal.{Refusal}
+use Rattle.hbc_io.proofs.Exits.{refused, reached}
 use Rattle.hbc_debug_parts.specs.Places.{inFile, inSection}
+use Rattle.hbc_debug_parts.specs.Parts.{headerSize, dataStart, dataEnd, scopesAt, calleesAt, stringsAt, noPart, noParts, partAt, partsIn, isEmpty}
+use Rattle.hbc_debug_parts.specs.Parts.{headerAt, partsOf, saysParts, FindParts, partBytes}
+use Rattle.hbc_debug_parts.proofs.Cases.{inside-of}
+use Rattle.hbc_debug_parts.specs.declared.InFile.{InFile}
 use Rattle.hbc_debug_parts.specs.declared.InSection.{InSection}
 use Rattle.hbc_debug_parts.specs.declared.InData.{InData}
 use Rattle.hbc_debug_parts.specs.declared.Header.{Header}
 use Rattle.hbc_debug_parts.specs.declared.Part.{Part}
 use Rattle.hbc_debug_parts.specs.declared.Parts.{Parts}
-use Rattle.hbc_debug_parts.specs.declared.FindParts.{FindParts}
-use Rattle.hbc_debug_parts.specs.declared.FindParts.the-variants as find
-use Rattle.hbc_debug.specs.Debug.{Tables, ReadParts, ReadSection, answerIn, tablesIn}
-use Rattle.hbc_debug.specs.declared.ReadDebug.{ReadDebug}
-use Rattle.hbc_debug.specs.declared.ReadDebug.the-variants as answer
+use Rattle.hbc_debug_parts.specs.declared.PartsFound.{PartsFound}
+use Rattle.hbc_debug_parts.specs.declared.PartsFound.the-variants as found
+use Rattle.hbc_debug.specs.Debug.{Tables, contents, contentsIn, countsAnswer, withRows, partsGiven, saysDebug, ReadDebug}
+use Rattle.hbc_debug.specs.Private.{ReadParts}
+use Rattle.hbc_debug.specs.declared.Debugged.{Debugged}
+use Rattle.hbc_debug.specs.declared.Debugged.the-variants as debugged
 
+-- the strings end by m
 pub record Within (m : ℕ) (p : Parts) : Type 0 where
   pub strings : p .strings .start .0 + p .strings .len ≤ m
 
@@ -53,37 +61,27 @@ parts-within left section h = go (ltb left (inSection (dataStart h) (dataEnd h) 
           (omega (arith, ltb-false left (inSection (dataStart h) (dataEnd h) .0) u));
     }
 
-never : {P : Type 0} {k : _} {p : Parts} → find.Refused k ≡ find.Found p → P
+never : {P : Type 0} {k : Refusal} {p : Parts} → refuses k ≡ gives p → P
 never e = let z : _≡_ {A = ℕ} 0 1 = cc in absurd (omega arith)
 
-inside-of : (len offset : ℕ) → isEmpty len offset ≡ false → offset < len
-unfolding isEmpty
-inside-of len offset e = go (eqb offset 0) (eqb offset 4294967295) e
+pub found-within : (file : List ℕ) (offset : ℕ) (p : Parts) → partsOf file offset ≡ gives p → Within limit p
+unfolding partsOf choose
+found-within file offset p e = let a = reached _ _ _ _ never e in go (isEmpty (length file) offset) refl (a .0) (a .1)
   where
-    go : (a b : Bool) → cond a true (cond b true (leb len offset)) ≡ false → offset < len
-    go false false h = leb-false len offset h
-    go true b h = let z : _≡_ {A = ℕ} 0 1 = cc in absurd (omega arith)
-    go false true h = let z : _≡_ {A = ℕ} 0 1 = cc in absurd (omega arith)
+    all : Parts
+    all = partsIn (length file - offset) (record { 0 = offset }) (headerAt file (record { 0 = offset }))
 
-pub found-within : (file : List ℕ) (offset : ℕ) (p : Parts) → partsOf file offset ≡ find.Found p → Within limit p
-unfolding partsOf
-found-within file offset p e = go (ltb limit (length file)) (isEmpty (length file) offset) (ltb (length file - offset) headerSize) refl refl e
-  where
-    go : (a b c : Bool) → ltb limit (length file) ≡ a → isEmpty (length file) offset ≡ b
-        → cond a (find.Refused (refusal 1)) (cond b (find.Found noParts) (cond c (find.Refused (refusal 3))
-        (find.Found (partsIn (length file - offset) (record { 0 = offset }) (headerAt file (record { 0 = offset })))))) ≡ find.Found p → Within limit p
-    go true b c u v f = never f
-    go false true c u v f = let q : noParts ≡ p = cc in rw q at (zero-within)
-      where
-        zero-within : Within limit noParts
-        zero-within = record { strings = omega arith }
-    go false false true u v f = never f
-    go false false false u v f =
-        let q : partsIn (length file - offset) (record { 0 = offset }) (headerAt file (record { 0 = offset })) ≡ p = cc in
-        let w = parts-within (length file - offset) (record { 0 = offset }) (headerAt file (record { 0 = offset })) in
-        let x = w .strings in
-        let y : Within limit (partsIn (length file - offset) (record { 0 = offset }) (headerAt file (record { 0 = offset })))
-        = record { strings = omega (arith, ltb-false limit (length file) u, inside-of (length file) offset v) } in
+    none-within : Within limit noParts
+    none-within = record { strings = omega arith }
+
+    go : (b : Bool) → isEmpty (length file) offset ≡ b → length file ≤ limit
+        → cond b (gives noParts) (below (length file - offset) headerSize (refusedAt 3 0) (gives all)) ≡ gives p → Within limit p
+    go true u l f = let q : noParts ≡ p = cc in rw q at none-within
+    go false u l f =
+        let d : gives all ≡ gives p = reached _ _ _ _ never f .1 in
+        let q : all ≡ p = cc in
+        let x = parts-within (length file - offset) (record { 0 = offset }) (headerAt file (record { 0 = offset })) .strings in
+        let y : Within limit all = record { strings = omega (arith, inside-of (length file) offset u) } in
         rw q at y
 
 -- the bytes of a part that lies in the file
@@ -95,27 +93,27 @@ part-short file start len m h = go (ltb (length file) start) (ltb (length file -
     go false true = omega arith
     go false false = let t = length-take len (drop start file) in omega arith
 
-module _ (file : List ℕ) (offset : ℕ) (before : Tables) where
-  pub section-refused : (f : FindParts) (k : _) → f ≡ partsOf file offset → f ≡ find.Refused k → ReadSection file offset before (answer.Refused k) before
-  section-refused f k d e =
-      let o : partsOf file offset ≡ find.Refused k = sym d ∙ e in
-      record { says = sym (ap (λ (x : FindParts). answerIn x file before) o); leaves = sym (ap (λ (x : FindParts). tablesIn x file before) o) }
-
-  pub section-found : (f : FindParts) (p : Parts) (st sp cp : List ℕ) (r : ReadDebug) (after : Tables) → f ≡ partsOf file offset → f ≡ find.Found p
-      → st ≡ bytesOf file (p .strings) → sp ≡ bytesOf file (p .scopes) → cp ≡ bytesOf file (p .callees)
-      → ReadParts st (p .strings .start) sp cp before r after → ReadSection file offset before r after
-  section-found f p st sp cp r after d e u v w x =
-      let o : partsOf file offset ≡ find.Found p = sym d ∙ e in
-      let y : ReadParts (bytesOf file (p .strings)) (p .strings .start) (bytesOf file (p .scopes)) (bytesOf file (p .callees)) before r after
-      = rw (u, v, w) at x in
-      record {
-        says = y .says ∙ sym (ap (λ (z : FindParts). answerIn z file before) o);
-        leaves = y .leaves ∙ sym (ap (λ (z : FindParts). tablesIn z file before) o);
-      }
-
-  pub base-fits : (f : FindParts) (p : Parts) (st : List ℕ) → f ≡ partsOf file offset → f ≡ find.Found p → st ≡ bytesOf file (p .strings)
-      → p .strings .start .0 + length st ≤ limit
-  base-fits f p st d e u =
+module _ (file : List ℕ) (offset : ℕ) where
+  pub base-fits : {f : PartsFound} {p : Parts} {s : List ℕ} → FindParts file offset f → f ≡ found.Found p → s ≡ partBytes file (p .strings)
+      → p .strings .start .0 + length s ≤ limit
+  base-fits {f} {p} d e u =
       let t = ap length u in
-      let h = part-short file (p .strings .start .0) (p .strings .len) limit (found-within file offset p (sym d ∙ e) .strings) in
+      let h = part-short file (p .strings .start .0) (p .strings .len) limit (found-within file offset p (sym d ∙ ap saysParts e) .strings) in
       omega arith
+
+  module _ (before : Tables) where
+    pub section-refused : {f : PartsFound} {k : Refusal} → FindParts file offset f → f ≡ found.Refused k → ReadDebug file offset before (debugged.Refused k) before
+    section-refused {f} {k} d e =
+        let o : partsOf file offset ≡ refuses k = sym d ∙ ap saysParts e in
+        refused refl (sym (ap (λ (a : Answer Parts). andThen a (λ p. countsAnswer (contentsIn file p) before)) o))
+
+    pub section-found : {f : PartsFound} {p : Parts} {strings scopes callees : List ℕ} {r : Debugged} {after : Tables} → FindParts file offset f → f ≡ found.Found p
+        → strings ≡ partBytes file (p .strings) → scopes ≡ partBytes file (p .scopes) → callees ≡ partBytes file (p .callees)
+        → ReadParts (contents strings (p .strings .start) scopes callees) before r after → ReadDebug file offset before r after
+    section-found {f} {p} {r = r} {after = after} d e u v w x =
+        let o : partsOf file offset ≡ gives p = sym d ∙ ap saysParts e in
+        let y : ReadParts (contentsIn file p) before r after = rw (u, v, w) at x in
+        record {
+          says = y .says ∙ sym (ap (λ (a : Answer Parts). andThen a (λ p. countsAnswer (contentsIn file p) before)) o);
+          leaves = y .leaves ∙ sym (ap (λ (a : Answer Parts). written (saysDebug r) (withRows (contentsIn file (partsGiven a)) before) before) o);
+        }

@@ -1,22 +1,22 @@
--- The whole debug section: four tables, and what each holds afterwards.
-use mathlib.Core.Path.{_≡_}
-use Prim.Native.Nat.{ℕ, _/_}
+-- docs/FORMAT.md, section 7.6: the four tables of the debug section, and what each holds afterwards.
+use Prim.Native.Nat.{ℕ}
 use mathlib.Core.List.{List}
 use mathlib.Core.Bool.{Bool, false, cond}
 use lib.ListN.{length}
 use lib.Seq.{sets}
 use lib.Dec.{leb}
-use Rattle.hbc_io.specs.Outcome.{refusal}
-use Rattle.hbc_debug_parts.specs.Parts.{partsOf, bytesOf}
+use Rattle.hbc_io.specs.Answer.{Answer, gives, refuses, refusedAt, andThen}
+use Rattle.hbc_io.specs.Lends.{choose, Lends}
+use Rattle.hbc_rows.specs.Rows.{rows}
+use Rattle.hbc_debug_parts.specs.Parts.{noParts, partsOf, partBytes}
 use Rattle.hbc_debug_parts.specs.declared.InFile.{InFile}
-use Rattle.hbc_debug_parts.specs.declared.FindParts.{FindParts}
-use Rattle.hbc_debug_parts.specs.declared.FindParts.the-variants as find
+use Rattle.hbc_debug_parts.specs.declared.Parts.{Parts}
 use Rattle.hbc_debug_strings.specs.Strings.{stringsOf, stringWidth, stringWords}
 use Rattle.hbc_debug_scopes.specs.Scopes.{scopesOf, scopeWidth, scopeWords, nameWords, namesIn}
 use Rattle.hbc_debug_callees.specs.Callees.{calleesOf, calleeWidth, calleeWords}
 use Rattle.hbc_debug.specs.declared.Counts.{Counts}
-use Rattle.hbc_debug.specs.declared.ReadDebug.{ReadDebug}
-use Rattle.hbc_debug.specs.declared.ReadDebug.the-variants as answer
+use Rattle.hbc_debug.specs.declared.Debugged.{Debugged}
+use Rattle.hbc_debug.specs.declared.Debugged.the-variants as debugged
 
 -- the four lent tables
 pub record Tables : Type 0 where
@@ -26,57 +26,79 @@ pub record Tables : Type 0 where
   pub callees : List ℕ
 
 abbrev pub tables : List ℕ → List ℕ → List ℕ → List ℕ → Tables
-tables a b c d = record { strings = a; scopes = b; names = c; callees = d }
+tables strings scopes names callees = record { strings = strings; scopes = scopes; names = names; callees = callees }
 
--- how many rows each takes: strings, scopes, names and callees of the bytes of three parts
-unfoldable pub countsOf : List ℕ → List ℕ → List ℕ → Counts
-countsOf st sp cp =
+-- the bytes of the three parts, and where those of the strings begin in the file
+pub record Contents : Type 0 where
+  pub strings : List ℕ
+  pub base : InFile
+  pub scopes : List ℕ
+  pub callees : List ℕ
+
+abbrev pub contents : List ℕ → InFile → List ℕ → List ℕ → Contents
+contents strings base scopes callees = record { strings = strings; base = base; scopes = scopes; callees = callees }
+
+abbrev pub contentsIn : List ℕ → Parts → Contents
+contentsIn file p = contents (partBytes file (p .strings)) (p .strings .start) (partBytes file (p .scopes)) (partBytes file (p .callees))
+
+-- names and callees go by how many strings there are
+abbrev pub stringCount : Contents → ℕ
+stringCount b = length (stringsOf (b .strings))
+
+-- how many rows each table takes
+unfoldable pub countsOf : Contents → Counts
+countsOf b =
     record {
-      strings = length (stringsOf st);
-      scopes = length (scopesOf sp);
-      names = namesIn (scopesOf sp);
-      callees = length (calleesOf (length (stringsOf st)) cp);
+      strings = stringCount b;
+      scopes = length (scopesOf (b .scopes));
+      names = namesIn (scopesOf (b .scopes));
+      callees = length (calleesOf (stringCount b) (b .callees));
     }
 
--- whether tables of so many words have the rows: 2 words a string, 5 a scope, 1 a name, 2 a callee
-unfoldable pub fitsIn : Counts → ℕ → ℕ → ℕ → ℕ → Bool
-fitsIn k a b c d =
-    cond (leb (k .strings) (a / stringWidth)) (cond (leb (k .scopes) (b / scopeWidth)) (cond (leb (k .names) c) (leb (k .callees) (d / calleeWidth)) false) false) false
+-- and how many it has room for; a name is one word
+abbrev pub roomIn : Tables → Counts
+roomIn t =
+    record {
+      strings = rows stringWidth (t .strings);
+      scopes = rows scopeWidth (t .scopes);
+      names = length (t .names);
+      callees = rows calleeWidth (t .callees);
+    }
 
-abbrev pub fits : Counts → Tables → Bool
-fits k t = fitsIn k (length (t .strings)) (length (t .scopes)) (length (t .names)) (length (t .callees))
+unfoldable pub fits : Counts → Counts → Bool
+fits need room =
+    cond (leb (need .strings) (room .strings))
+    (cond (leb (need .scopes) (room .scopes)) (cond (leb (need .names) (room .names)) (leb (need .callees) (room .callees)) false) false)
+    false
 
--- the tables with their rows in them; the words past the rows are as they were
-abbrev pub filled : List ℕ → InFile → List ℕ → List ℕ → Tables → Tables
-filled st base sp cp t =
-    tables (sets (t .strings) 0 (stringWords base (stringsOf st)))
-    (sets (t .scopes) 0 (scopeWords (scopesOf sp)))
-    (sets (t .names) 0 (nameWords (length (stringsOf st)) (scopesOf sp)))
-    (sets (t .callees) 0 (calleeWords (calleesOf (length (stringsOf st)) cp)))
+-- the tables with their rows in front; the words past the rows are as they were
+abbrev pub withRows : Contents → Tables → Tables
+withRows b t =
+    tables (sets (t .strings) 0 (stringWords (b .base) (stringsOf (b .strings))))
+    (sets (t .scopes) 0 (scopeWords (scopesOf (b .scopes))))
+    (sets (t .names) 0 (nameWords (stringCount b) (scopesOf (b .scopes))))
+    (sets (t .callees) 0 (calleeWords (calleesOf (stringCount b) (b .callees))))
 
--- 4 if one of the tables is short: all are looked at together, and then none is written
-abbrev pub partsAnswer : List ℕ → List ℕ → List ℕ → Tables → ReadDebug
-partsAnswer st sp cp t = cond (fits (countsOf st sp cp) t) (answer.Read (countsOf st sp cp)) (answer.Refused (refusal 4))
+-- 4 if one of the tables is short: all are looked at together
+abbrev pub countsAnswer : Contents → Tables → Answer Counts
+countsAnswer b t = choose (fits (countsOf b) (roomIn t)) (gives (countsOf b)) (refusedAt 4 0)
 
-abbrev pub partsTables : List ℕ → InFile → List ℕ → List ℕ → Tables → Tables
-partsTables st base sp cp t = cond (fits (countsOf st sp cp) t) (filled st base sp cp t) t
+-- the section at an offset: 1 and 3 come first, with its parts
+abbrev pub debugAnswer : List ℕ → ℕ → Tables → Answer Counts
+debugAnswer file offset t = andThen (partsOf file offset) (λ p. countsAnswer (contentsIn file p) t)
 
--- what is read of the bytes of the three parts
-pub record ReadParts (st : List ℕ) (base : InFile) (sp cp : List ℕ) (before : Tables) (r : ReadDebug) (after : Tables) : Type 0 where
-  pub says : r ≡ partsAnswer st sp cp before
-  pub leaves : after ≡ partsTables st base sp cp before
+-- what its parts hold; empty ones where they are refused
+abbrev pub partsGiven : Answer Parts → Parts
+partsGiven (gives p) = p
+partsGiven (refuses r) = noParts
 
--- 1 and 3 come first, then the parts; a refusal leaves every table as it was
-abbrev pub answerIn : FindParts → List ℕ → Tables → ReadDebug
-answerIn (find.Refused k) file t = answer.Refused k
-answerIn (find.Found p) file t = partsAnswer (bytesOf file (p .strings)) (bytesOf file (p .scopes)) (bytesOf file (p .callees)) t
+abbrev pub contentsAt : List ℕ → ℕ → Contents
+contentsAt file offset = contentsIn file (partsGiven (partsOf file offset))
 
-abbrev pub tablesIn : FindParts → List ℕ → Tables → Tables
-tablesIn (find.Refused k) file t = t
-tablesIn (find.Found p) file t =
-    partsTables (bytesOf file (p .strings)) (p .strings .start) (bytesOf file (p .scopes)) (bytesOf file (p .callees)) t
+abbrev pub saysDebug : Debugged → Answer Counts
+saysDebug (debugged.Read k) = gives k
+saysDebug (debugged.Refused r) = refuses r
 
--- the debug section at an offset of the file
-pub record ReadSection (file : List ℕ) (offset : ℕ) (before : Tables) (r : ReadDebug) (after : Tables) : Type 0 where
-  pub says : r ≡ answerIn (partsOf file offset) file before
-  pub leaves : after ≡ tablesIn (partsOf file offset) file before
+-- the promise: the counts, and every word of the four tables
+abbrev pub ReadDebug : List ℕ → ℕ → Tables → Debugged → Tables → Type 0
+ReadDebug file offset before = Lends saysDebug (debugAnswer file offset before) (withRows (contentsAt file offset) before) before

@@ -4,12 +4,13 @@ ghost use mathlib.Core.Path.{_≡_};
 ghost use Prim.Native.Nat.{_+_, _≤_};
 ghost use lib.ListN.{length};
 ghost use Rattle.hbc_io.specs.Outcome.{limit};
-ghost use Rattle.hbc_debug.specs.Debug.{tables, fitsIn, ReadParts, ReadSection};
+ghost use Rattle.hbc_debug.specs.Debug.{tables, contents, fits, ReadDebug};
+ghost use Rattle.hbc_debug.specs.Private.{ReadParts};
 use hbc_debug_callees::CALLEE_WORDS;
 use hbc_debug_callees::count_callees;
 use hbc_debug_callees::write_callees;
-use hbc_debug_parts::FindParts;
 use hbc_debug_parts::InFile;
+use hbc_debug_parts::PartsFound;
 use hbc_debug_parts::find_parts;
 use hbc_debug_parts::part_bytes;
 use hbc_debug_scopes::SCOPE_WORDS;
@@ -29,19 +30,19 @@ pub struct Counts {
     pub callees: usize,
 }
 
-pub enum ReadDebug {
+pub enum Debugged {
     Read(Counts),
     Refused(Refusal),
 }
 
-// Whether tables of so many words have the rows.
-fn roomy(k: Counts, strings: usize, scopes: usize, names: usize, callees: usize) -> bool
-    ensures { λ r. ⌜ r ≡ fitsIn k strings scopes names callees ⌝ }
+// Whether each table has room for its rows.
+fn fits(need: Counts, room: Counts) -> bool
+    ensures { λ r. ⌜ r ≡ fits need room ⌝ }
 {
-    if k.strings <= strings / STRING_WORDS {
-        if k.scopes <= scopes / SCOPE_WORDS {
-            if k.names <= names {
-                return k.callees <= callees / CALLEE_WORDS;
+    if need.strings <= room.strings {
+        if need.scopes <= room.scopes {
+            if need.names <= room.names {
+                return need.callees <= room.callees;
             }
         }
     }
@@ -49,41 +50,43 @@ fn roomy(k: Counts, strings: usize, scopes: usize, names: usize, callees: usize)
 }
 
 fn read_parts(
-    st: &[u8],
+    string_part: &[u8],
     base: InFile,
-    sp: &[u8],
-    cp: &[u8],
+    scope_part: &[u8],
+    callee_part: &[u8],
     strings: &mut [u32],
     scopes: &mut [u32],
     names: &mut [u32],
     callees: &mut [u32],
-) -> ReadDebug
-    requires { ⌜ base .0 + length (now st) ≤ limit ⌝ }
-    ensures { λ r. ⌜ ReadParts (now (st .entry)) base (now (sp .entry)) (now (cp .entry)) (tables (now (strings .entry)) (now (scopes .entry)) (now (names .entry)) (now (callees .entry))) r (tables (now (strings .exit)) (now (scopes .exit)) (now (names .exit)) (now (callees .exit))) ⌝ }
+) -> Debugged
+    requires { ⌜ base .0 + length (now «string_part») ≤ limit ⌝ }
+    ensures { λ r. ⌜ ReadParts (contents (now («string_part» .entry)) base (now («scope_part» .entry)) (now («callee_part» .entry)))
+        (tables (now (strings .entry)) (now (scopes .entry)) (now (names .entry)) (now (callees .entry)))
+        r (tables (now (strings .exit)) (now (scopes .exit)) (now (names .exit)) (now (callees .exit))) ⌝ }
 {
-    let a = count_strings(st);
-    let n = a.strings;
-    let b = count_scopes(sp);
-    let c = count_callees(cp, n as u32);
-    let counts = Counts {
+    let string_count = count_strings(string_part);
+    let n = string_count.strings;
+    let scope_counts = count_scopes(scope_part);
+    let callee_count = count_callees(callee_part, n as u32);
+    let need = Counts {
         strings: n,
-        scopes: b.scopes,
-        names: b.names,
-        callees: c.callees,
+        scopes: scope_counts.scopes,
+        names: scope_counts.names,
+        callees: callee_count.callees,
     };
-    if roomy(
-        counts,
-        strings.len(),
-        scopes.len(),
-        names.len(),
-        callees.len(),
-    ) {
-        write_strings(st, base, strings);
-        write_scopes(sp, n as u32, scopes, names);
-        write_callees(cp, n as u32, callees);
-        return ReadDebug::Read(counts);
+    let room = Counts {
+        strings: strings.len() / STRING_WORDS,
+        scopes: scopes.len() / SCOPE_WORDS,
+        names: names.len(),
+        callees: callees.len() / CALLEE_WORDS,
+    };
+    if fits(need, room) {
+        write_strings(string_part, base, strings);
+        write_scopes(scope_part, n as u32, scopes, names);
+        write_callees(callee_part, n as u32, callees);
+        return Debugged::Read(need);
     }
-    ReadDebug::Refused(refuse(4, 0))
+    Debugged::Refused(refuse(4, 0))
 }
 
 // Reads the debug section at `offset`: strings (2 words a row), scopes (5), names (1) and callees (2).
@@ -94,18 +97,29 @@ pub fn read_debug(
     scopes: &mut [u32],
     names: &mut [u32],
     callees: &mut [u32],
-) -> ReadDebug
-    ensures { λ r. ⌜ ReadSection (now (file .entry)) offset (tables (now (strings .entry)) (now (scopes .entry)) (now (names .entry)) (now (callees .entry))) r (tables (now (strings .exit)) (now (scopes .exit)) (now (names .exit)) (now (callees .exit))) ⌝ }
+) -> Debugged
+    ensures { λ r. ⌜ ReadDebug (now (file .entry)) offset
+        (tables (now (strings .entry)) (now (scopes .entry)) (now (names .entry)) (now (callees .entry)))
+        r (tables (now (strings .exit)) (now (scopes .exit)) (now (names .exit)) (now (callees .exit))) ⌝ }
 {
     match find_parts(file, offset) {
-        FindParts::Refused(r) => ReadDebug::Refused(r),
-        FindParts::Found(p) => {
-            let a = p.strings;
-            let base = a.start;
-            let st = part_bytes(file, a);
-            let sp = part_bytes(file, p.scopes);
-            let cp = part_bytes(file, p.callees);
-            read_parts(st, base, sp, cp, strings, scopes, names, callees)
+        PartsFound::Refused(r) => Debugged::Refused(r),
+        PartsFound::Found(p) => {
+            let place = p.strings;
+            let base = place.start;
+            let string_part = part_bytes(file, place);
+            let scope_part = part_bytes(file, p.scopes);
+            let callee_part = part_bytes(file, p.callees);
+            read_parts(
+                string_part,
+                base,
+                scope_part,
+                callee_part,
+                strings,
+                scopes,
+                names,
+                callees,
+            )
         }
     }
 }

@@ -1,12 +1,14 @@
--- The debug section at an offset: its header and its three parts.
+-- docs/FORMAT.md, section 7.2: the debug section at an offset, its header and its three parts.
+use mathlib.Core.Path.{_≡_}
 use Prim.Native.Nat.{ℕ, _+_, _-_, _*_}
 use mathlib.Core.List.{List}
 use mathlib.Core.Bool.{Bool, true, cond}
 use lib.ListN.{length}
 use lib.Dec.{ltb, leb, eqb}
-use Rattle.hbc_bits.specs.Bits.{leAt}
-use Rattle.hbc_io.specs.Outcome.{refusal, limit}
-use Rattle.hbc_io.specs.Plain.{partOf, spanOf}
+use Rattle.hbc_io.specs.Outcome.{limit}
+use Rattle.hbc_io.specs.Plain.{wordAt, partOf, spanOf}
+use Rattle.hbc_io.specs.Answer.{Answer, gives, refuses, refusedAt}
+use Rattle.hbc_io.specs.Lends.{below, choose}
 use Rattle.hbc_debug_parts.specs.Places.{inFile, inSection}
 use Rattle.hbc_debug_parts.specs.declared.InFile.{InFile}
 use Rattle.hbc_debug_parts.specs.declared.InSection.{InSection}
@@ -14,31 +16,31 @@ use Rattle.hbc_debug_parts.specs.declared.InData.{InData}
 use Rattle.hbc_debug_parts.specs.declared.Header.{Header}
 use Rattle.hbc_debug_parts.specs.declared.Part.{Part}
 use Rattle.hbc_debug_parts.specs.declared.Parts.{Parts}
-use Rattle.hbc_debug_parts.specs.declared.FindParts.{FindParts}
-use Rattle.hbc_debug_parts.specs.declared.FindParts.the-variants as find
+use Rattle.hbc_debug_parts.specs.declared.PartsFound.{PartsFound}
+use Rattle.hbc_debug_parts.specs.declared.PartsFound.the-variants as found
 
 -- the header is seven u32
 abbrev pub headerSize : ℕ
 headerSize = 28
 
--- the u32 at a place
-unfoldable pub wordAt : List ℕ → InFile → ℕ
-wordAt file at = leAt file (at .0) 4
+-- the u32 at a place of the section
+unfoldable pub headerWord : List ℕ → InFile → InSection → ℕ
+headerWord file section at = wordAt 4 file (inFile section at .0)
 
-abbrev pub headerWord : List ℕ → InFile → ℕ → ℕ
-headerWord file section k = wordAt file (inFile section (record { 0 = k }))
+abbrev pub headerField : List ℕ → InFile → ℕ → ℕ
+headerField file section k = headerWord file section (record { 0 = k })
 
--- seven u32, as listed in debug.rs
+-- seven u32, in the order of docs/FORMAT.md, section 7.2
 unfoldable pub headerAt : List ℕ → InFile → Header
 headerAt file section =
     record {
-      «filename_count» = headerWord file section 0;
-      «filename_storage_size» = headerWord file section 4;
-      «file_region_count» = headerWord file section 8;
-      «scope_desc_offset» = headerWord file section 12;
-      «textified_callee_offset» = headerWord file section 16;
-      «string_table_offset» = headerWord file section 20;
-      «debug_data_size» = headerWord file section 24;
+      «filename_count» = headerField file section 0;
+      «filename_storage_size» = headerField file section 4;
+      «file_region_count» = headerField file section 8;
+      «scope_desc_offset» = headerField file section 12;
+      «textified_callee_offset» = headerField file section 16;
+      «string_table_offset» = headerField file section 20;
+      «debug_data_size» = headerField file section 24;
     }
 
 -- data start: 28 + 8 × filenames + storage + 12 × regions
@@ -81,17 +83,30 @@ partsIn left section h =
       strings = partAt section (dataStart h) (dataEnd h) (stringsAt h) (dataEnd h);
     })
 
--- offset 0, 2^32 - 1, or at or past the end
-unfoldable pub isEmpty : ℕ → ℕ → Bool
-isEmpty len offset = cond (eqb offset 0) true (cond (eqb offset 4294967295) true (leb len offset))
+-- the offset that stands for no section, as 0 does
+abbrev pub noSection : ℕ
+noSection = 4294967295
 
-unfoldable pub partsOf : List ℕ → ℕ → FindParts
+-- no section: offset 0, 2^32 - 1, or at or past the end
+unfoldable pub isEmpty : ℕ → ℕ → Bool
+isEmpty len offset = cond (eqb offset 0) true (cond (eqb offset noSection) true (leb len offset))
+
+-- 1, then no section has empty parts, then 3 if the header is not all there
+unfoldable pub partsOf : List ℕ → ℕ → Answer Parts
 partsOf file offset =
-    cond (ltb limit (length file)) (find.Refused (refusal 1))
-    (cond (isEmpty (length file) offset) (find.Found noParts)
-    (cond (ltb (length file - offset) headerSize) (find.Refused (refusal 3))
-    (find.Found (partsIn (length file - offset) (record { 0 = offset }) (headerAt file (record { 0 = offset }))))))
+    below limit (length file) (refusedAt 1 0)
+    (choose (isEmpty (length file) offset) (gives noParts)
+    (below (length file - offset) headerSize (refusedAt 3 0)
+    (gives (partsIn (length file - offset) (record { 0 = offset }) (headerAt file (record { 0 = offset }))))))
+
+abbrev pub saysParts : PartsFound → Answer Parts
+saysParts (found.Found p) = gives p
+saysParts (found.Refused r) = refuses r
+
+-- the promise: the three parts of the section at an offset
+abbrev pub FindParts : List ℕ → ℕ → PartsFound → Type 0
+FindParts file offset r = saysParts r ≡ partsOf file offset
 
 -- the bytes of a part
-abbrev pub bytesOf : List ℕ → Part → List ℕ
-bytesOf file p = partOf file (spanOf (p .start .0) (p .len))
+abbrev pub partBytes : List ℕ → Part → List ℕ
+partBytes file p = partOf file (spanOf (p .start .0) (p .len))

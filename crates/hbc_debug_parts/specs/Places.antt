@@ -1,4 +1,4 @@
--- The three kinds of place, and how one is had from another.
+-- docs/FORMAT.md, section 7.1: the three kinds of place, and how one is had from another.
 use Prim.Native.Nat.{_+_}
 use Rattle.hbc_debug_parts.specs.declared.InFile.{InFile}
 use Rattle.hbc_debug_parts.specs.declared.InSection.{InSection}

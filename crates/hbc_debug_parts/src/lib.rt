@@ -1,21 +1,21 @@
 // Where the debug section is, and its three parts. Offsets from the file, from the section and from the debug data are three types.
 ghost use mathlib.Core.Path.{_≡_};
 ghost use Prim.Native.Nat.{_+_, _^_, _≤_, _<_};
-ghost use lib.ListN.{length};
 ghost use Rattle.hbc_io.specs.Outcome.{limit};
 ghost use Rattle.hbc_debug_parts.specs.Places.{inFile, inSection};
-ghost use Rattle.hbc_debug_parts.specs.Parts.{headerSize, wordAt, headerAt, dataStart, noPart, partAt, partsIn, partsOf, isEmpty, bytesOf};
-use hbc_io::Cursor;
+ghost use Rattle.hbc_debug_parts.specs.Parts.{headerWord, headerAt, dataStart, noPart, noParts, partAt, partsIn, isEmpty, FindParts, partBytes};
 use hbc_io::LIMIT;
-use hbc_io::ReadU32;
 use hbc_io::Refusal;
 use hbc_io::Span;
 use hbc_io::part;
-use hbc_io::read_u32;
 use hbc_io::refuse;
+use hbc_io::u32_at;
 
 // The header's bytes.
 pub const HEADER_SIZE: usize = 28;
+
+// The offset that stands for no debug section, as 0 does.
+pub const NO_SECTION: u32 = 0xFFFF_FFFF;
 
 // A place counted from the file's first byte.
 pub struct InFile(pub usize);
@@ -38,7 +38,7 @@ pub struct Parts {
     pub strings: Part,
 }
 
-pub enum FindParts {
+pub enum PartsFound {
     Found(Parts),
     Refused(Refusal),
 }
@@ -70,18 +70,15 @@ fn data_to_section(blob: InSection, at: InData) -> InSection
 
 // The word at a place of the header.
 fn word_at(file: &[u8], section: InFile, at: InSection) -> u32
-    requires { ⌜ (length (now file) ≤ limit) × (section .0 + headerSize ≤ length (now file)) × (at .0 + 4 ≤ headerSize) ⌝ }
-    ensures { λ r. ⌜ r ≡ wordAt (now (file .entry)) (inFile section at) ⌝ }
+    requires { ⌜ section .0 + at .0 < 2 ^ 64 ⌝ }
+    ensures { λ r. ⌜ r ≡ headerWord (now (file .entry)) section at ⌝ }
 {
     let place = section_to_file(section, at);
-    match read_u32(file, Cursor { at: place.0 }) {
-        ReadU32::Got(v, _) => v,
-        ReadU32::Refused(r, _) => 0,
-    }
+    u32_at(file, place.0)
 }
 
 fn read_header(file: &[u8], section: InFile) -> Header
-    requires { ⌜ (length (now file) ≤ limit) × (section .0 + headerSize ≤ length (now file)) ⌝ }
+    requires { ⌜ section .0 ≤ limit ⌝ }
     ensures { λ r. ⌜ r ≡ headerAt (now (file .entry)) section ⌝ }
 {
     Header {
@@ -117,6 +114,16 @@ fn no_part() -> Part
     }
 }
 
+fn no_parts() -> Parts
+    ensures { λ r. ⌜ r ≡ noParts ⌝ }
+{
+    Parts {
+        scopes: no_part(),
+        callees: no_part(),
+        strings: no_part(),
+    }
+}
+
 // The part of the debug data between two places, where `end` is the data's end.
 fn part_at(section: InFile, blob: InSection, end: InData, from: InData, to: InData) -> Part
     requires { ⌜ section .0 + (blob .0 + end .0) < 2 ^ 64 ⌝ }
@@ -147,11 +154,7 @@ fn parts_in(left: usize, section: InFile, h: Header) -> Parts
     let end = InData(h.debug_data_size as usize);
     let past = data_to_section(blob, end);
     if left < past.0 {
-        return Parts {
-            scopes: no_part(),
-            callees: no_part(),
-            strings: no_part(),
-        };
+        return no_parts();
     }
     Parts {
         scopes: part_at(section, blob, end, scopes, callees),
@@ -167,37 +170,33 @@ fn is_empty(len: usize, offset: u32) -> bool
     if offset == 0 {
         return true;
     }
-    if offset == 0xFFFF_FFFF {
+    if offset == NO_SECTION {
         return true;
     }
     len <= (offset as usize)
 }
 
 // The three parts of the debug section at `offset`.
-pub fn find_parts(file: &[u8], offset: u32) -> FindParts
-    ensures { λ r. ⌜ r ≡ partsOf (now (file .entry)) offset ⌝ }
+pub fn find_parts(file: &[u8], offset: u32) -> PartsFound
+    ensures { λ r. ⌜ FindParts (now (file .entry)) offset r ⌝ }
 {
     if LIMIT < file.len() {
-        return FindParts::Refused(refuse(1, 0));
+        return PartsFound::Refused(refuse(1, 0));
     }
     let at = offset as usize;
     if is_empty(file.len(), offset) {
-        return FindParts::Found(Parts {
-            scopes: no_part(),
-            callees: no_part(),
-            strings: no_part(),
-        });
+        return PartsFound::Found(no_parts());
     }
     if file.len() - at < HEADER_SIZE {
-        return FindParts::Refused(refuse(3, 0));
+        return PartsFound::Refused(refuse(3, 0));
     }
     let section = InFile(at);
-    FindParts::Found(parts_in(file.len() - at, section, read_header(file, section)))
+    PartsFound::Found(parts_in(file.len() - at, section, read_header(file, section)))
 }
 
 // The bytes of a part.
 pub fn part_bytes(file: &[u8], p: Part) -> &[u8]
-    ensures { λ r. ⌜ now r ≡ bytesOf (now (file .entry)) p ⌝ }
+    ensures { λ r. ⌜ now r ≡ partBytes (now (file .entry)) p ⌝ }
 {
     let start = p.start;
     part(

@@ -13,24 +13,25 @@ use Rattle.hbc_io.specs.Outcome.{Outcome, got, refused, valued, andThen, refusa
 use Rattle.hbc_io.specs.declared.Cursor.{Cursor}
 use Rattle.hbc_io.specs.declared.Refusal.{Refusal}
 use Rattle.hbc_io.proofs.Reading.{valued-got, valued-refused, then-got}
-use Rattle.hbc_debug_items.specs.Signed.{slebAt, bitsOf, heldOf, upTo, below, natural, low32}
-use Rattle.hbc_debug_items.specs.declared.Held.{Held}
-use Rattle.hbc_debug_items.proofs.Words.{bits-up-to, bits-low, natural-bits, natural-le}
-use Rattle.hbc_debug_items.proofs.Reading.{Bits, bits-got, bits-refused}
-use Rattle.hbc_debug_items.specs.Until.{until, flat}
-use Rattle.hbc_debug_items.proofs.Moves.{sleb-moves, far}
+use Rattle.hbc_io_leb.specs.Signed.{slebAt, bitsOf, heldOf, upTo, under, natural, low32}
+use Rattle.hbc_io_leb.specs.declared.Held.{Held}
+use Rattle.hbc_io_leb.proofs.Signed.{bits-up-to, bits-low, natural-bits, natural-le}
+use Rattle.hbc_io_leb.proofs.Helds.{Bits, bits-got, bits-refused}
+use Rattle.hbc_rows.specs.Until.{until, flat, Ended}
+use Rattle.hbc_io_leb.proofs.Moves.{sleb-moves}
+use Rattle.hbc_rows.proofs.Far.{far}
 use lib.Seq.{sets}
-use Rattle.hbc_debug_items.proofs.Passes.{Ended, Written, written-on}
+use Rattle.hbc_rows.proofs.Passes.{Written, written-on}
 use Rattle.hbc_io_leb.proofs.Lebs.{leb-got}
 use Rattle.hbc_io_leb.specs.Leb.{lebBytes}
 use Rattle.hbc_io_leb.specs.Answers.{slebOf}
 use Rattle.hbc_io_leb.specs.declared.Sleb.{Sleb}
-use Rattle.hbc_debug_scopes.specs.Scopes.{Front, frontAt, wordBelow, absent, Scope, scopeAt, scopeRow, nameCount, nameRow, nameCell}
-use Rattle.hbc_debug_scopes.specs.Heads.{headOf, wordBits}
+use Rattle.hbc_debug_scopes.specs.Scopes.{Front, frontAt, wordBelow, absent, Scope, scopeAt, scopeWidth, scopeRow, nameCount, nameRow, nameCell}
+use Rattle.hbc_debug_scopes.specs.Private.{headOf, wordBits}
 use Rattle.hbc_debug_scopes.specs.declared.Head.{Head}
 
 pub word-bits : (m : ℕ) (z : ℤ) → SFits w64 z → m < 2 ^ 63 → wordBits m (bitsOf z) ≡ wordBelow m z
-unfolding wordBits wordBelow below bitsOf
+unfolding wordBits wordBelow under bitsOf
 word-bits m (pos n) h k = refl
 word-bits m (negsuc n) h k = rw (le-ltb (2 ^ 64 - suc n) m (omega (arith, h .sfits)))
 
@@ -175,6 +176,6 @@ turned m at {n} {t} g h e w =
     let l : length (nameRow m (g .x)) ≡ n = length-cells m (g .x .names) ∙ sym (g .count) in
     written-on n h (g .is) l (e ∙ ap (sets t at) (g .names m)) w
 
-pub row-size : (k : ℕ) (x : Scope) → length (scopeRow k x) ≡ 5
+pub row-size : (k : ℕ) (x : Scope) → length (scopeRow k x) ≡ scopeWidth
 unfolding scopeRow
 row-size k x = refl

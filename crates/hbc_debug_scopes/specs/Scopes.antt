@@ -1,4 +1,4 @@
--- The scopes of a part, and their rows.
+-- docs/FORMAT.md, section 7.4: the scopes of a part, their names, and their rows.
 use mathlib.Core.Path.{_≡_}
 use Prim.Native.Nat.{ℕ, _-_}
 use mathlib.Core.List.{List, [], _∷_}
@@ -9,8 +9,8 @@ use lib.Seq.{sets}
 use Rattle.hbc_io.specs.Outcome.{Outcome, got, refused, andThen, cursorAt, refusal}
 use Rattle.hbc_io.specs.declared.Cursor.{Cursor}
 use Rattle.hbc_io_leb.specs.declared.Sleb.{Sleb}
-use Rattle.hbc_debug_items.specs.Until.{until, after, flat, flatFrom, sum}
-use Rattle.hbc_debug_items.specs.Signed.{slebAt, upTo, below, natural, low32}
+use Rattle.hbc_rows.specs.Until.{until, after, flat, flatFrom, sum}
+use Rattle.hbc_io_leb.specs.Signed.{slebAt, upTo, under, natural, low32}
 
 -- what stands before the names
 pub record Front : Type 0 where
@@ -24,7 +24,9 @@ frontAt s c =
     andThen (slebAt s c) (λ parent c₁.
     andThen (slebAt s c₁) (λ flags c₂.
     andThen (slebAt s c₂) (λ count c₃.
-    cond (upTo (length s - c₃ .at) (count .value)) (got (record { parent = parent .value; flags = flags .value; count = natural (count .value) }) c₃) (refused (refusal 3) c₃))))
+    cond (upTo (length s - c₃ .at) (count .value))
+    (got (record { parent = parent .value; flags = flags .value; count = natural (count .value) }) c₃)
+    (refused (refusal 3) c₃))))
 
 pub record Scope : Type 0 where
   pub offset : ℕ
@@ -47,7 +49,7 @@ absent = 4294967295
 
 -- the number, if it is from 0 to below m
 unfoldable pub wordBelow : ℕ → ℤ → ℕ
-wordBelow m z = cond (below m z) (natural z) absent
+wordBelow m z = cond (under m z) (natural z) absent
 
 -- below 0 or from 2^32 - 1 up: none
 abbrev pub parentWord : ℤ → ℕ
@@ -60,7 +62,7 @@ nameWord n z = wordBelow n z
 unfoldable pub nameCount : Scope → ℕ
 nameCount x = length (x .names)
 
--- the words of a scope's row, and which is which
+-- the words of a scope's row, and the place of each
 abbrev pub scopeWidth : ℕ
 scopeWidth = 5
 
@@ -99,12 +101,12 @@ nameWords n xs = flat (nameRow n) xs
 abbrev pub namesIn : List Scope → ℕ
 namesIn xs = sum nameCount xs
 
--- how many rows each of the two tables takes
-pub record CountedScopes (s : List ℕ) (scopes names : ℕ) : Type 0 where
+-- the promise of count_scopes: how many rows each of the two tables takes
+pub record CountScopes (s : List ℕ) (scopes names : ℕ) : Type 0 where
   pub scopes-are : scopes ≡ length (scopesOf s)
   pub names-are : names ≡ namesIn (scopesOf s)
 
--- the two tables with their rows in them; the words past those are as they were
-pub record WrittenScopes (s : List ℕ) (strings : ℕ) (rows names rows′ names′ : List ℕ) : Type 0 where
+-- the promise of write_scopes: the two tables with their rows in them; the words past those are as they were
+pub record WriteScopes (s : List ℕ) (strings : ℕ) (rows names rows′ names′ : List ℕ) : Type 0 where
   pub rows-are : rows′ ≡ sets rows 0 (scopeWords (scopesOf s))
   pub names-are : names′ ≡ sets names 0 (nameWords strings (scopesOf s))

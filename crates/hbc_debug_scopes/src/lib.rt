@@ -3,16 +3,15 @@ ghost use mathlib.Core.Path.{_≡_};
 ghost use Prim.Native.Nat.{_+_, _^_, _<_};
 ghost use lib.Seq.{sets};
 ghost use Rattle.hbc_io.specs.Outcome.{valued};
-ghost use Rattle.hbc_debug_items.specs.Until.{until, flat};
-ghost use Rattle.hbc_debug_items.specs.Signed.{slebAt};
-ghost use Rattle.hbc_debug_items.proofs.Passes.{Ended};
-ghost use Rattle.hbc_debug_scopes.specs.Scopes.{frontAt, nameCell, CountedScopes, WrittenScopes};
-ghost use Rattle.hbc_debug_scopes.specs.Heads.{headOf, ofHead, wordBits};
-use hbc_debug_items::Failed;
-use hbc_debug_items::ReadHeld;
-use hbc_debug_items::read_bits;
+ghost use Rattle.hbc_io_leb.specs.Signed.{slebAt};
+ghost use Rattle.hbc_rows.specs.Until.{until, flat, Ended};
+ghost use Rattle.hbc_debug_scopes.specs.Scopes.{frontAt, nameCell, CountScopes, WriteScopes};
+ghost use Rattle.hbc_debug_scopes.specs.Private.{headOf, saysHead, wordBits};
 use hbc_io::Cursor;
+use hbc_io::Failed;
 use hbc_io::refuse;
+use hbc_io_leb::ReadHeld;
+use hbc_io_leb::read_sleb128_bits;
 use hbc_rows::put_words;
 
 // The words of a scope's row, and which they are.
@@ -67,13 +66,13 @@ fn word_below(bits: u64, most: u32) -> u32
 }
 
 fn read_head(s: &[u8], c: Cursor) -> ReadHead
-    ensures { λ r. ⌜ ofHead r ≡ valued headOf (frontAt (now (s .entry)) c) ⌝ }
+    ensures { λ r. ⌜ saysHead r ≡ valued headOf (frontAt (now (s .entry)) c) ⌝ }
 {
-    match read_bits(s, c) {
+    match read_sleb128_bits(s, c) {
         ReadHeld::Refused(r, left) => ReadHead::Refused(Failed { refusal: r }, left),
-        ReadHeld::Got(parent, c1) => match read_bits(s, c1) {
+        ReadHeld::Got(parent, c1) => match read_sleb128_bits(s, c1) {
             ReadHeld::Refused(r, left) => ReadHead::Refused(Failed { refusal: r }, left),
-            ReadHeld::Got(flags, c2) => match read_bits(s, c2) {
+            ReadHeld::Got(flags, c2) => match read_sleb128_bits(s, c2) {
                 ReadHeld::Refused(r, left) => ReadHead::Refused(Failed { refusal: r }, left),
                 ReadHeld::Got(count, c3) => {
                     if count.bits <= ((s.len() - c3.at) as u64) {
@@ -106,7 +105,7 @@ fn count_names(s: &[u8], c: Cursor, count: usize) -> Names
     let mut left = count;
     let mut n: usize = 0;
     while 0 < left {
-        match read_bits(s, here) {
+        match read_sleb128_bits(s, here) {
             ReadHeld::Refused(r, end) => {
                 return Names {
                     count: n,
@@ -144,7 +143,7 @@ fn write_names(
     let mut n: usize = 0;
     let mut to = at;
     while 0 < left {
-        match read_bits(s, here) {
+        match read_sleb128_bits(s, here) {
             ReadHeld::Refused(r, end) => {
                 return Names {
                     count: n,
@@ -169,7 +168,7 @@ fn write_names(
 
 // How many scopes a part has, and how many names in all.
 pub fn count_scopes(s: &[u8]) -> ScopeCounts
-    ensures { λ r. ⌜ CountedScopes (now (s .entry)) (r .scopes) (r .names) ⌝ }
+    ensures { λ r. ⌜ CountScopes (now (s .entry)) (r .scopes) (r .names) ⌝ }
 {
     let mut here = Cursor { at: 0 };
     let mut left = s.len();
@@ -201,7 +200,7 @@ pub fn count_scopes(s: &[u8]) -> ScopeCounts
 
 // Writes a row a scope, and the names, each below `strings` or none.
 pub fn write_scopes(s: &[u8], strings: u32, rows: &mut [u32], names: &mut [u32])
-    ensures { λ r. ⌜ WrittenScopes (now (s .entry)) strings (now (rows .entry)) (now (names .entry)) (now (rows .exit)) (now (names .exit)) ⌝ }
+    ensures { λ r. ⌜ WriteScopes (now (s .entry)) strings (now (rows .entry)) (now (names .entry)) (now (rows .exit)) (now (names .exit)) ⌝ }
 {
     let mut here = Cursor { at: 0 };
     let mut left = s.len();

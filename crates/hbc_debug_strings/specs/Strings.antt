@@ -1,4 +1,4 @@
--- The strings of a part, and their rows.
+-- docs/FORMAT.md, section 7.3: the strings of a part, and their rows.
 use Prim.Native.Nat.{ℕ, _+_}
 use mathlib.Core.List.{List, [], _∷_}
 use mathlib.Core.Bool.{cond}
@@ -7,9 +7,9 @@ use lib.Seq.{sets}
 use lib.Dec.{ltb}
 use Rattle.hbc_io.specs.Outcome.{cursorAt, limit}
 use Rattle.hbc_io.specs.declared.Span.{Span}
-use Rattle.hbc_io_text.specs.Text.{prefixed}
+use Rattle.hbc_io_strings.specs.Text.{prefixed}
 use Rattle.hbc_debug_parts.specs.declared.InFile.{InFile}
-use Rattle.hbc_debug_items.specs.Until.{until, flat}
+use Rattle.hbc_rows.specs.Until.{until, flat}
 
 -- length-prefixed until one fails; each takes a byte, so that a part has at most as many as it has bytes
 unfoldable pub stringsOf : List ℕ → List Span

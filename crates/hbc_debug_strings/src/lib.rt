@@ -9,7 +9,7 @@ use hbc_debug_parts::InFile;
 use hbc_io::Cursor;
 use hbc_io::LIMIT;
 use hbc_io::ReadSpan;
-use hbc_io_text::read_length_prefixed_string;
+use hbc_io_strings::read_length_prefixed_string;
 use hbc_rows::put_words;
 
 // The words of a string's row: start in the file, byte length.

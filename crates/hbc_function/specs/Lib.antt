@@ -1,5 +1,3 @@
 pub mod Table
 pub mod Refresh
-pub mod Next
-pub mod Laws
-pub mod Passes
+pub mod Private

@@ -1,22 +1,24 @@
 // The table of functions, read into lent rows, and refreshed after a span of the file changed.
 ghost use mathlib.Core.Path.{_≡_};
-ghost use Prim.Native.Nat.{_+_, _*_, _^_, _≤_, _<_};
+ghost use Prim.Native.Nat.{_+_, _*_, _≤_};
 ghost use lib.ListN.{length};
 ghost use lib.Dec.{leb};
-ghost use Rattle.hbc_header.specs.Answer.{gives, ofReading, asked};
-ghost use Rattle.hbc_header.specs.Header.{functionAt};
-ghost use Rattle.hbc_header.specs.Row.{width};
-ghost use Rattle.hbc_header_ground.specs.Meets.{meets};
-ghost use Rattle.hbc_function.specs.Table.{all, scan, putRow, putRows, ReadFunctions};
-ghost use Rattle.hbc_function.specs.Refresh.{ofRefreshed, held, RefreshFunctions};
-ghost use Rattle.hbc_function.specs.Next.{Next};
-use hbc_header::Layout;
-use hbc_header::Reading;
-use hbc_header::WIDTH;
-use hbc_header::check_function;
-use hbc_header::function_row;
-use hbc_header::header_size;
-use hbc_header_ground::function_meets;
+ghost use Rattle.hbc_io.specs.Answer.{gives, asked};
+ghost use Rattle.hbc_io.specs.Outcome.{limit};
+ghost use Rattle.hbc_rows.specs.Rows.{putRow};
+ghost use Rattle.hbc_function_record.specs.Row.{width};
+ghost use Rattle.hbc_function_header.specs.Header.{saysReading, functionAt};
+ghost use Rattle.hbc_function_header.specs.Meets.{meets};
+ghost use Rattle.hbc_function.specs.Table.{all, scan, rowBy, putRows, ReadFunctions};
+ghost use Rattle.hbc_function.specs.Refresh.{saysRefreshed, held, putMet, RefreshFunctions};
+ghost use Rattle.hbc_function.specs.Private.{Next};
+use hbc_function_header::Reading;
+use hbc_function_header::check_function;
+use hbc_function_header::function_meets;
+use hbc_function_header::function_row;
+use hbc_function_record::Layout;
+use hbc_function_record::WIDTH;
+use hbc_function_record::header_size;
 use hbc_io::LIMIT;
 use hbc_io::Refusal;
 use hbc_io::refuse;
@@ -29,15 +31,15 @@ pub enum Refreshed {
 
 // Whether function `id` of a table that starts in a file of at most 2^30 bytes can be read.
 fn check_at(s: &[u8], layout: Layout, start: usize, id: u32) -> Reading
-    requires { ⌜ (start ≤ length (now s)) × (length (now s) ≤ 2 ^ 30) ⌝ }
-    ensures { λ r. ⌜ ofReading r ≡ asked (functionAt (now (s .entry)) layout start id) ⌝ }
+    requires { ⌜ (start ≤ length (now s)) × (length (now s) ≤ limit) ⌝ }
+    ensures { λ r. ⌜ saysReading r ≡ asked (functionAt (now (s .entry)) layout start id) ⌝ }
 {
     check_function(s, layout, start, id)
 }
 
 // Whether function `id` meets the span.
 fn meets_at(s: &[u8], layout: Layout, start: usize, low: usize, high: usize, id: u32) -> bool
-    requires { ⌜ length (now s) ≤ 2 ^ 30 ⌝ }
+    requires { ⌜ length (now s) ≤ limit ⌝ }
     ensures { λ b. ⌜ b ≡ meets (now (s .entry)) layout start low high id ⌝ }
 {
     function_meets(s, layout, start, id, low, high)
@@ -45,9 +47,9 @@ fn meets_at(s: &[u8], layout: Layout, start: usize, low: usize, high: usize, id:
 
 // The row of function `id` into its place.
 fn write_row(s: &[u8], layout: Layout, start: usize, id: u32, table: &mut [u32])
-    requires { ⌜ (start ≤ length (now s)) × (length (now s) ≤ 2 ^ 30) ⌝ }
+    requires { ⌜ (start ≤ length (now s)) × (length (now s) ≤ limit) ⌝ }
     requires { ⌜ id * width + width ≤ length (now table) ⌝ }
-    ensures { λ _. ⌜ now (table .exit) ≡ putRow id (functionAt (now (s .entry)) layout start id) (now (table .entry)) ⌝ }
+    ensures { λ _. ⌜ now (table .exit) ≡ putRow width (now (table .entry)) id (rowBy (functionAt (now (s .entry)) layout start id)) ⌝ }
 {
     let at = (id as usize) * WIDTH;
     function_row(s, layout, start, id, &mut table[at..at + WIDTH]);
@@ -55,8 +57,8 @@ fn write_row(s: &[u8], layout: Layout, start: usize, id: u32, table: &mut [u32])
 
 // The first refusal among functions 0 to count - 1.
 fn check_all(s: &[u8], layout: Layout, start: usize, count: u32) -> Reading
-    requires { ⌜ (start ≤ length (now s)) × (length (now s) ≤ 2 ^ 30) ⌝ }
-    ensures { λ r. ⌜ ofReading r ≡ asked (scan all (functionAt (now (s .entry)) layout start) count) ⌝ }
+    requires { ⌜ (start ≤ length (now s)) × (length (now s) ≤ limit) ⌝ }
+    ensures { λ r. ⌜ saysReading r ≡ asked (scan all (functionAt (now (s .entry)) layout start) count) ⌝ }
 {
     let mut id: u32 = 0;
     while id < count {
@@ -68,9 +70,9 @@ fn check_all(s: &[u8], layout: Layout, start: usize, count: u32) -> Reading
     Reading::Read
 }
 
-// The rows of functions `from` to `to` - 1 into their places. All rows are written by this one loop, so that what writes a row is in it, not called from it.
+// The rows of functions `from` to `to` - 1 into their places. All rows are written by this one loop, so that function_row is inlined once.
 fn write_rows(s: &[u8], layout: Layout, start: usize, from: u32, to: u32, table: &mut [u32])
-    requires { ⌜ (start ≤ length (now s)) × (length (now s) ≤ 2 ^ 30) ⌝ }
+    requires { ⌜ (start ≤ length (now s)) × (length (now s) ≤ limit) ⌝ }
     requires { ⌜ (from ≤ to) × (to * width ≤ length (now table)) ⌝ }
     ensures { λ _. ⌜ now (table .exit) ≡ putRows (leb from) (functionAt (now (s .entry)) layout start) (now (table .entry)) to ⌝ }
 {
@@ -91,10 +93,10 @@ pub fn read_functions(
 ) -> Reading
     ensures { λ r. ⌜ ReadFunctions (now (file .entry)) layout start count (now (table .entry)) r (now (table .exit)) ⌝ }
 {
-    if file.len() > LIMIT {
+    if LIMIT < file.len() {
         return Reading::Refused(refuse(1, 0));
     }
-    if start > file.len() {
+    if file.len() < start {
         return Reading::Refused(refuse(2, 0));
     }
     if table.len() < (count as usize) * WIDTH {
@@ -117,7 +119,7 @@ fn next_met(
     from: u32,
     count: u32,
 ) -> u32
-    requires { ⌜ (length (now s) ≤ 2 ^ 30) × (from ≤ count) ⌝ }
+    requires { ⌜ (length (now s) ≤ limit) × (from ≤ count) ⌝ }
     ensures { λ r. ⌜ Next (meets (now (s .entry)) layout start low high) from count r ⌝ }
 {
     let mut id = from;
@@ -140,9 +142,9 @@ fn check_met(
     high: usize,
     first: u32,
 ) -> Refreshed
-    requires { ⌜ (start ≤ length (now s)) × (length (now s) ≤ 2 ^ 30) ⌝ }
+    requires { ⌜ (start ≤ length (now s)) × (length (now s) ≤ limit) ⌝ }
     requires { ⌜ Next (meets (now s) layout start low high) 0 count first ⌝ }
-    ensures { λ r. ⌜ ofRefreshed r ≡ scan (meets (now (s .entry)) layout start low high) (functionAt (now (s .entry)) layout start) count ⌝ }
+    ensures { λ r. ⌜ saysRefreshed r ≡ scan (meets (now (s .entry)) layout start low high) (functionAt (now (s .entry)) layout start) count ⌝ }
 {
     let mut n: u32 = 0;
     let mut id = first;
@@ -168,11 +170,11 @@ fn patch_met(
     n: u32,
     table: &mut [u32],
 )
-    requires { ⌜ (start ≤ length (now s)) × (length (now s) ≤ 2 ^ 30) ⌝ }
+    requires { ⌜ (start ≤ length (now s)) × (length (now s) ≤ limit) ⌝ }
     requires { ⌜ Next (meets (now s) layout start low high) 0 count first ⌝ }
     requires { ⌜ scan (meets (now s) layout start low high) (functionAt (now s) layout start) count ≡ gives n ⌝ }
     requires { ⌜ count * width ≤ length (now table) ⌝ }
-    ensures { λ _. ⌜ now (table .exit) ≡ putRows (meets (now (s .entry)) layout start low high) (functionAt (now (s .entry)) layout start) (now (table .entry)) count ⌝ }
+    ensures { λ _. ⌜ now (table .exit) ≡ putMet (now (s .entry)) layout start low high (now (table .entry)) count ⌝ }
 {
     let mut left = n;
     let mut id = first;
@@ -205,16 +207,16 @@ pub fn refresh_functions(
 ) -> Refreshed
     ensures { λ r. ⌜ RefreshFunctions (now (file .entry)) layout start count low high (now (table .entry)) r (now (table .exit)) ⌝ }
 {
-    if file.len() > LIMIT {
+    if LIMIT < file.len() {
         return Refreshed::Refused(refuse(1, 0));
     }
-    if start > file.len() {
+    if file.len() < start {
         return Refreshed::Refused(refuse(2, 0));
     }
-    if low > high {
+    if high < low {
         return Refreshed::Refused(refuse(10, 0));
     }
-    if high > file.len() {
+    if file.len() < high {
         return Refreshed::Refused(refuse(10, 0));
     }
     if table.len() < (count as usize) * WIDTH {

@@ -3,3 +3,5 @@ pub mod Signs
 pub mod Plains
 pub mod Aligns
 pub mod Alone
+pub mod Exits
+pub mod Moves

@@ -1,16 +1,17 @@
 -- What a plain read found says of the bytes, and when it finds them, over the width.
-use mathlib.Core.Path.{_≡_}
+use mathlib.Core.Path.{_≡_, refl}
+use mathlib.Core.Bool.{Bool, true, false, cond}
 use mathlib.Core.List.{List}
 use Prim.Native.Nat.{ℕ, zero, suc, _+_, _-_, _*_, _^_, _≤_, _<_}
 use native.Mathlib.Omega.{arith}
-use borrow.Author.Tests.{ltb-false, le-ltb}
+use borrow.Author.Tests.{ltb-false, le-ltb, lt-ltb}
 use lib.ListN.{length, getD}
-use lib.Pow.{pow-mono}
+use lib.Pow.{pow-mono, pow-pos}
 use lib.Dec.{ltb}
 use Rattle.hbc_bits.specs.Bits.{leAt}
-use Rattle.hbc_bits.specs.Laws.{Bytes, le-lt, le-step}
+use Rattle.hbc_bits.proofs.Laws.{Bytes, le-lt, le-step}
 use Rattle.hbc_io.specs.Outcome.{got, refused, cursorAt, refusal, limit, left}
-use Rattle.hbc_io.specs.Plain.{started, needing, plainAt, bytesAt, spanOf}
+use Rattle.hbc_io.specs.Plain.{started, needing, plainAt, wordAt, bytesAt, spanOf}
 use Rattle.hbc_io.specs.declared.Cursor.{Cursor}
 use Rattle.hbc_io.specs.declared.Refusal.{Refusal}
 use Rattle.hbc_io.specs.declared.Span.{Span}
@@ -80,3 +81,22 @@ module _ (w : ℕ) (s : List ℕ) (at : ℕ) where
 
   pub plain-there : {r : Refusal} {n : Cursor} → length s ≤ limit → at + w ≤ length s → plainAt w s (cursorAt at) ≡ refused r n → ⊥
   plain-there h l e = not-both (plain-is w s (cursorAt at) h l) e
+
+-- ---- what stands at a place, with no cursor
+
+module _ (w : ℕ) (s : List ℕ) (at : ℕ) where
+  pub word-there : at + w ≤ length s → wordAt w s at ≡ leAt s at w
+  unfolding wordAt
+  word-there h = rw (le-ltb (length s) (at + w) h)
+
+  pub word-none : length s < at + w → wordAt w s at ≡ 0
+  unfolding wordAt
+  word-none h = rw (lt-ltb (length s) (at + w) h)
+
+  word-by : (b : Bool) → Bytes s → cond b 0 (leAt s at w) < 2 ^ (8 * w)
+  word-by true k = pow-pos (8 * w)
+  word-by false k = le-lt s at w k
+
+  pub word-lt : Bytes s → wordAt w s at < 2 ^ (8 * w)
+  unfolding wordAt
+  word-lt k = word-by (ltb (length s) (at + w)) k

@@ -1,4 +1,4 @@
--- What each case of an answer of src/ says: the value, or the refusal, and the cursor.
+-- docs/FORMAT.md, section 2.2: what each case of an answer of src/ says: the value, or the refusal, and the cursor.
 use Prim.Native.Nat.{ℕ}
 use lib.IntN.{ℤ}
 use lib.Ieee.{Float}
@@ -23,39 +23,39 @@ use Rattle.hbc_io.specs.declared.ReadSpan.the-variants as span
 use Rattle.hbc_io.specs.declared.Moved.{Moved}
 use Rattle.hbc_io.specs.declared.Moved.the-variants as moved
 
-abbrev pub ofU8 : ReadU8 → Outcome ℕ
-ofU8 (u8.Got v n) = got v n
-ofU8 (u8.Refused r n) = refused r n
+abbrev pub saysU8 : ReadU8 → Outcome ℕ
+saysU8 (u8.Got v n) = got v n
+saysU8 (u8.Refused r n) = refused r n
 
-abbrev pub ofU16 : ReadU16 → Outcome ℕ
-ofU16 (u16.Got v n) = got v n
-ofU16 (u16.Refused r n) = refused r n
+abbrev pub saysU16 : ReadU16 → Outcome ℕ
+saysU16 (u16.Got v n) = got v n
+saysU16 (u16.Refused r n) = refused r n
 
-abbrev pub ofU32 : ReadU32 → Outcome ℕ
-ofU32 (u32.Got v n) = got v n
-ofU32 (u32.Refused r n) = refused r n
+abbrev pub saysU32 : ReadU32 → Outcome ℕ
+saysU32 (u32.Got v n) = got v n
+saysU32 (u32.Refused r n) = refused r n
 
-abbrev pub ofU64 : ReadU64 → Outcome ℕ
-ofU64 (u64.Got v n) = got v n
-ofU64 (u64.Refused r n) = refused r n
+abbrev pub saysU64 : ReadU64 → Outcome ℕ
+saysU64 (u64.Got v n) = got v n
+saysU64 (u64.Refused r n) = refused r n
 
-abbrev pub ofI8 : ReadI8 → Outcome ℤ
-ofI8 (i8.Got v n) = got v n
-ofI8 (i8.Refused r n) = refused r n
+abbrev pub saysI8 : ReadI8 → Outcome ℤ
+saysI8 (i8.Got v n) = got v n
+saysI8 (i8.Refused r n) = refused r n
 
-abbrev pub ofI32 : ReadI32 → Outcome ℤ
-ofI32 (i32.Got v n) = got v n
-ofI32 (i32.Refused r n) = refused r n
+abbrev pub saysI32 : ReadI32 → Outcome ℤ
+saysI32 (i32.Got v n) = got v n
+saysI32 (i32.Refused r n) = refused r n
 
-abbrev pub ofF64 : ReadF64 → Outcome Float
-ofF64 (f64.Got v n) = got v n
-ofF64 (f64.Refused r n) = refused r n
+abbrev pub saysF64 : ReadF64 → Outcome Float
+saysF64 (f64.Got v n) = got v n
+saysF64 (f64.Refused r n) = refused r n
 
-abbrev pub ofSpan : ReadSpan → Outcome Span
-ofSpan (span.Got v n) = got v n
-ofSpan (span.Refused r n) = refused r n
+abbrev pub saysSpan : ReadSpan → Outcome Span
+saysSpan (span.Got v n) = got v n
+saysSpan (span.Refused r n) = refused r n
 
 -- a move has no value but the cursor
-abbrev pub ofMoved : Moved → Outcome (Unit {0})
-ofMoved (moved.To n) = got tt n
-ofMoved (moved.Refused r n) = refused r n
+abbrev pub saysMoved : Moved → Outcome (Unit {0})
+saysMoved (moved.To n) = got tt n
+saysMoved (moved.Refused r n) = refused r n

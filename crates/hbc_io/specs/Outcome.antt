@@ -1,4 +1,4 @@
--- What a read finds, whatever the type of its value, and the words that every read is described in.
+-- docs/FORMAT.md, sections 1.3 and 2.2: what a read finds, whatever the type of its value, and the words that every read is described in.
 use Prim.Native.Nat.{ℕ, suc, _-_, _^_}
 use mathlib.Core.List.{List}
 use mathlib.Core.Bool.{cond}

@@ -1,4 +1,4 @@
--- Plain reads, seek, align and spans, with the refusals in document 01's order. A refused one leaves the cursor.
+-- docs/FORMAT.md, section 2.2: plain reads, seek, align and spans, with the refusals in their order. A refused one leaves the cursor.
 use Prim.Native.Nat.{ℕ, _+_, _-_, _%_}
 use mathlib.Core.List.{List, []}
 use mathlib.Core.Bool.{cond}
@@ -28,6 +28,10 @@ started s c o = within s c (reaching s c (c .at) o)
 -- the little-endian number of the next w bytes
 unfoldable pub plainAt : ℕ → List ℕ → Cursor → Outcome ℕ
 plainAt w s c = started s c (needing w s c (got (leAt s (c .at) w) (cursorAt (c .at + w))))
+
+-- the number of the w bytes at a place, with no cursor and no refusal: 0 where they are not all there
+unfoldable pub wordAt : ℕ → List ℕ → ℕ → ℕ
+wordAt w s at = cond (ltb (length s) (at + w)) 0 (leAt s at w)
 
 abbrev pub spanOf : ℕ → ℕ → Span
 spanOf start len = record { start = start; len = len }

@@ -6,8 +6,8 @@ ghost use lib.ListN.{length};
 ghost use lib.Ieee.{ofBits, binary64};
 ghost use Rattle.hbc_bits.specs.Bits.{leAt};
 ghost use Rattle.hbc_io.specs.Outcome.{refusalAt, cursorAt, left, valued, twos};
-ghost use Rattle.hbc_io.specs.Plain.{plainAt, seekTo, alignTo, bytesAt, partOf};
-ghost use Rattle.hbc_io.specs.Answers.{ofU8, ofU16, ofU32, ofU64, ofI8, ofI32, ofF64, ofMoved, ofSpan};
+ghost use Rattle.hbc_io.specs.Plain.{plainAt, wordAt, seekTo, alignTo, bytesAt, partOf};
+ghost use Rattle.hbc_io.specs.Answers.{saysU8, saysU16, saysU32, saysU64, saysI8, saysI32, saysF64, saysMoved, saysSpan};
 
 // The longest input that is read, in bytes.
 pub const LIMIT: usize = 1073741824;
@@ -21,6 +21,11 @@ pub struct Cursor {
 pub struct Refusal {
     pub number: u32,
     pub place: u32,
+}
+
+// What is told of an item that could not be read whole, though some of its numbers were.
+pub struct Failed {
+    pub refusal: Refusal,
 }
 
 pub enum ReadU8 {
@@ -123,7 +128,7 @@ fn gather(s: &[u8], at: usize, width: usize) -> u64
 
 fn number(s: &[u8], c: Cursor, width: usize) -> ReadU64
     requires { ⌜ width ≤ 8 ⌝ }
-    ensures { λ r. ⌜ ofU64 r ≡ plainAt width (now (s .entry)) c ⌝ }
+    ensures { λ r. ⌜ saysU64 r ≡ plainAt width (now (s .entry)) c ⌝ }
 {
     let at = c.at;
     if LIMIT < s.len() {
@@ -139,7 +144,7 @@ fn number(s: &[u8], c: Cursor, width: usize) -> ReadU64
 }
 
 pub fn read_u8(s: &[u8], c: Cursor) -> ReadU8
-    ensures { λ r. ⌜ ofU8 r ≡ plainAt 1 (now (s .entry)) c ⌝ }
+    ensures { λ r. ⌜ saysU8 r ≡ plainAt 1 (now (s .entry)) c ⌝ }
 {
     match number(s, c, 1) {
         ReadU64::Got(v, next) => ReadU8::Got(v as u8, next),
@@ -148,7 +153,7 @@ pub fn read_u8(s: &[u8], c: Cursor) -> ReadU8
 }
 
 pub fn read_u16(s: &[u8], c: Cursor) -> ReadU16
-    ensures { λ r. ⌜ ofU16 r ≡ plainAt 2 (now (s .entry)) c ⌝ }
+    ensures { λ r. ⌜ saysU16 r ≡ plainAt 2 (now (s .entry)) c ⌝ }
 {
     match number(s, c, 2) {
         ReadU64::Got(v, next) => ReadU16::Got(v as u16, next),
@@ -157,7 +162,7 @@ pub fn read_u16(s: &[u8], c: Cursor) -> ReadU16
 }
 
 pub fn read_u32(s: &[u8], c: Cursor) -> ReadU32
-    ensures { λ r. ⌜ ofU32 r ≡ plainAt 4 (now (s .entry)) c ⌝ }
+    ensures { λ r. ⌜ saysU32 r ≡ plainAt 4 (now (s .entry)) c ⌝ }
 {
     match number(s, c, 4) {
         ReadU64::Got(v, next) => ReadU32::Got(v as u32, next),
@@ -166,9 +171,47 @@ pub fn read_u32(s: &[u8], c: Cursor) -> ReadU32
 }
 
 pub fn read_u64(s: &[u8], c: Cursor) -> ReadU64
-    ensures { λ r. ⌜ ofU64 r ≡ plainAt 8 (now (s .entry)) c ⌝ }
+    ensures { λ r. ⌜ saysU64 r ≡ plainAt 8 (now (s .entry)) c ⌝ }
 {
     number(s, c, 8)
+}
+
+// What stands at a place, for callers that have tested it or take 0 for what is not there: no cursor, no refusal.
+fn peek(s: &[u8], at: usize, width: usize) -> u64
+    requires { ⌜ width ≤ 8 ⌝ }
+    ensures { λ r. ⌜ r ≡ wordAt width (now (s .entry)) at ⌝ }
+{
+    if s.len() < at {
+        return 0;
+    }
+    if s.len() - at < width {
+        return 0;
+    }
+    gather(s, at, width)
+}
+
+pub fn u8_at(s: &[u8], at: usize) -> u8
+    ensures { λ r. ⌜ r ≡ wordAt 1 (now (s .entry)) at ⌝ }
+{
+    peek(s, at, 1) as u8
+}
+
+pub fn u16_at(s: &[u8], at: usize) -> u16
+    ensures { λ r. ⌜ r ≡ wordAt 2 (now (s .entry)) at ⌝ }
+{
+    peek(s, at, 2) as u16
+}
+
+pub fn u32_at(s: &[u8], at: usize) -> u32
+    ensures { λ r. ⌜ r ≡ wordAt 4 (now (s .entry)) at ⌝ }
+{
+    peek(s, at, 4) as u32
+}
+
+pub fn u64_at(s: &[u8], at: usize) -> u64
+    ensures { λ r. ⌜ r ≡ wordAt 8 (now (s .entry)) at ⌝ }
+{
+    peek(s, at, 8)
 }
 
 // The number that 8 bits stand for in two's complement.
@@ -204,7 +247,7 @@ pub fn float_of(v: u64) -> f64
 }
 
 pub fn read_i8(s: &[u8], c: Cursor) -> ReadI8
-    ensures { λ r. ⌜ ofI8 r ≡ valued (twos 8) (plainAt 1 (now (s .entry)) c) ⌝ }
+    ensures { λ r. ⌜ saysI8 r ≡ valued (twos 8) (plainAt 1 (now (s .entry)) c) ⌝ }
 {
     match read_u8(s, c) {
         ReadU8::Got(v, next) => ReadI8::Got(signed8(v), next),
@@ -213,7 +256,7 @@ pub fn read_i8(s: &[u8], c: Cursor) -> ReadI8
 }
 
 pub fn read_i32(s: &[u8], c: Cursor) -> ReadI32
-    ensures { λ r. ⌜ ofI32 r ≡ valued (twos 32) (plainAt 4 (now (s .entry)) c) ⌝ }
+    ensures { λ r. ⌜ saysI32 r ≡ valued (twos 32) (plainAt 4 (now (s .entry)) c) ⌝ }
 {
     match read_u32(s, c) {
         ReadU32::Got(v, next) => ReadI32::Got(signed32(v), next),
@@ -222,7 +265,7 @@ pub fn read_i32(s: &[u8], c: Cursor) -> ReadI32
 }
 
 pub fn read_f64(s: &[u8], c: Cursor) -> ReadF64
-    ensures { λ r. ⌜ ofF64 r ≡ valued (ofBits binary64) (plainAt 8 (now (s .entry)) c) ⌝ }
+    ensures { λ r. ⌜ saysF64 r ≡ valued (ofBits binary64) (plainAt 8 (now (s .entry)) c) ⌝ }
 {
     match read_u64(s, c) {
         ReadU64::Got(v, next) => ReadF64::Got(float_of(v), next),
@@ -231,7 +274,7 @@ pub fn read_f64(s: &[u8], c: Cursor) -> ReadF64
 }
 
 pub fn seek(s: &[u8], c: Cursor, to: usize) -> Moved
-    ensures { λ r. ⌜ ofMoved r ≡ seekTo (now (s .entry)) c to ⌝ }
+    ensures { λ r. ⌜ saysMoved r ≡ seekTo (now (s .entry)) c to ⌝ }
 {
     if LIMIT < s.len() {
         return Moved::Refused(refuse(1, 0), c);
@@ -243,7 +286,7 @@ pub fn seek(s: &[u8], c: Cursor, to: usize) -> Moved
 }
 
 pub fn align(s: &[u8], c: Cursor, alignment: usize) -> Moved
-    ensures { λ r. ⌜ ofMoved r ≡ alignTo (now (s .entry)) c alignment ⌝ }
+    ensures { λ r. ⌜ saysMoved r ≡ alignTo (now (s .entry)) c alignment ⌝ }
 {
     let at = c.at;
     if LIMIT < s.len() {
@@ -269,7 +312,7 @@ pub fn align(s: &[u8], c: Cursor, alignment: usize) -> Moved
 
 // The next `len` bytes, as a span.
 pub fn read_bytes(s: &[u8], c: Cursor, len: usize) -> ReadSpan
-    ensures { λ r. ⌜ ofSpan r ≡ bytesAt len (now (s .entry)) c ⌝ }
+    ensures { λ r. ⌜ saysSpan r ≡ bytesAt len (now (s .entry)) c ⌝ }
 {
     let at = c.at;
     if LIMIT < s.len() {

@@ -13,11 +13,11 @@ use lib.Seq.{drop-cons, getD-drop, length-take-le, take-length}
 use lib.Pow.{pow-add, pow-pos, pow-mono}
 use lib.Bits.{bitOr}
 use Rattle.hbc_io_leb.specs.Leb.{going, groups, lebBytes}
-use Rattle.hbc_io_leb.specs.Groups.{groupsOf}
+use Rattle.hbc_io_leb.specs.Private.{groupsOf}
 use Rattle.hbc_io.specs.Outcome.{got, refused, valued, cursorAt, refusal, limit}
 use Rattle.hbc_io.specs.declared.Cursor.{Cursor}
 use Rattle.hbc_io.proofs.Reading.{past-test}
-use Rattle.hbc_bits.specs.Laws.{or-parts}
+use Rattle.hbc_bits.proofs.Laws.{or-parts}
 
 -- ---- groups
 

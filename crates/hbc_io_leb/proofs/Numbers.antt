@@ -10,7 +10,7 @@ use Rattle.hbc_io.specs.declared.Cursor.{Cursor}
 use Rattle.hbc_io.specs.declared.Refusal.{Refusal}
 use Rattle.hbc_io.proofs.Reading.{valued-got, valued-refused, valued-on}
 use Rattle.hbc_io_leb.specs.Leb.{groups, lebBytes, signedOf}
-use Rattle.hbc_io_leb.specs.Groups.{groupsOf, signedBits}
+use Rattle.hbc_io_leb.specs.Private.{groupsOf, signedBits}
 use Rattle.hbc_io_leb.specs.Answers.{ulebOf, slebOf}
 use Rattle.hbc_io_leb.specs.declared.Groups.{Groups}
 use Rattle.hbc_io_leb.specs.declared.Uleb.{Uleb}

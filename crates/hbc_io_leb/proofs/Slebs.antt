@@ -12,8 +12,8 @@ use lib.Arith.{digits-mod}
 use lib.Bits.{bitOr, or-zero-r}
 use Rattle.hbc_io.specs.Outcome.{twos}
 use Rattle.hbc_io_leb.specs.Leb.{low64}
-use Rattle.hbc_io_leb.specs.Groups.{signedBits}
-use Rattle.hbc_bits.specs.Laws.{or-parts}
+use Rattle.hbc_io_leb.specs.Private.{signedBits}
+use Rattle.hbc_bits.proofs.Laws.{or-parts}
 
 pub by-le : {P : Type 0} (a b : ℕ) → (a ≤ b → P) → (b < a → P) → P
 by-le {P} a b f g = go (leb a b) refl

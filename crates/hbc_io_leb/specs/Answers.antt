@@ -1,4 +1,4 @@
--- What each case of an answer of src/ says.
+-- docs/FORMAT.md, section 2.3: what each case of an answer of src/ says.
 use mathlib.Core.List.{List}
 use Prim.Native.Nat.{ℕ}
 use Rattle.hbc_io.specs.Outcome.{Outcome, got, refused}
@@ -17,10 +17,10 @@ ulebOf bs = record { value = unsignedOf bs }
 abbrev pub slebOf : List ℕ → Sleb
 slebOf bs = record { value = signedOf bs }
 
-abbrev pub ofUleb : ReadUleb → Outcome Uleb
-ofUleb (uleb.Got v n) = got v n
-ofUleb (uleb.Refused r n) = refused r n
+abbrev pub saysUleb : ReadUleb → Outcome Uleb
+saysUleb (uleb.Got v n) = got v n
+saysUleb (uleb.Refused r n) = refused r n
 
-abbrev pub ofSleb : ReadSleb → Outcome Sleb
-ofSleb (sleb.Got v n) = got v n
-ofSleb (sleb.Refused r n) = refused r n
+abbrev pub saysSleb : ReadSleb → Outcome Sleb
+saysSleb (sleb.Got v n) = got v n
+saysSleb (sleb.Refused r n) = refused r n

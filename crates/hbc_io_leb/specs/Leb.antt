@@ -1,4 +1,5 @@
--- LEB128 numbers as DWARF 5, section 7.6, has them, and what the reader makes of them: at most ten bytes, and 64 bits of the value.
+-- docs/FORMAT.md, section 2.3: LEB128 numbers as DWARF 5, section 7.6, has them, and what the reader makes of them: at most ten bytes, and
+-- 64 bits of the value.
 use Prim.Native.Nat.{ℕ, suc, _+_, _-_, _*_, _%_, _^_}
 use mathlib.Core.List.{List, [], _∷_}
 use mathlib.Core.Bool.{cond}

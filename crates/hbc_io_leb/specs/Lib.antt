@@ -1,3 +1,4 @@
 pub mod Leb
 pub mod Answers
-pub mod Groups
+pub mod Signed
+pub mod Private

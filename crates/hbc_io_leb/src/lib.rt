@@ -4,8 +4,9 @@ ghost use Prim.Native.Nat.{_*_, _^_, _≤_, _<_, min};
 ghost use lib.ListN.{length, getD};
 ghost use Rattle.hbc_io.specs.Outcome.{valued, twos};
 ghost use Rattle.hbc_io_leb.specs.Leb.{lebBytes};
-ghost use Rattle.hbc_io_leb.specs.Groups.{groupsOf, ofGroups, signedBits};
-ghost use Rattle.hbc_io_leb.specs.Answers.{ulebOf, slebOf, ofUleb, ofSleb};
+ghost use Rattle.hbc_io_leb.specs.Private.{groupsOf, saysGroups, signedBits};
+ghost use Rattle.hbc_io_leb.specs.Answers.{ulebOf, slebOf, saysUleb, saysSleb};
+ghost use Rattle.hbc_io_leb.specs.Signed.{slebAt, bitsOf, heldOf, saysHeld};
 use hbc_io::Cursor;
 use hbc_io::LIMIT;
 use hbc_io::Refusal;
@@ -28,6 +29,16 @@ pub enum ReadUleb {
 
 pub enum ReadSleb {
     Got(Sleb, Cursor),
+    Refused(Refusal, Cursor),
+}
+
+// The same with the number as the 64 bits that hold it, so that every test on one is a test of unsigned numbers.
+pub struct Held {
+    pub bits: u64,
+}
+
+pub enum ReadHeld {
+    Got(Held, Cursor),
     Refused(Refusal, Cursor),
 }
 
@@ -63,7 +74,7 @@ fn first_at(s: &[u8], at: usize) -> u8
 
 // One byte is most numbers, and goes first. One bound for the loop, so that it stays small enough to be inlined in both reads.
 fn read_groups(s: &[u8], c: Cursor) -> ReadGroups
-    ensures { λ r. ⌜ ofGroups r ≡ valued groupsOf (lebBytes (now (s .entry)) c) ⌝ }
+    ensures { λ r. ⌜ saysGroups r ≡ valued groupsOf (lebBytes (now (s .entry)) c) ⌝ }
 {
     let at = c.at;
     if LIMIT < s.len() {
@@ -106,7 +117,7 @@ fn read_groups(s: &[u8], c: Cursor) -> ReadGroups
 }
 
 pub fn read_uleb128(s: &[u8], c: Cursor) -> ReadUleb
-    ensures { λ r. ⌜ ofUleb r ≡ valued ulebOf (lebBytes (now (s .entry)) c) ⌝ }
+    ensures { λ r. ⌜ saysUleb r ≡ valued ulebOf (lebBytes (now (s .entry)) c) ⌝ }
 {
     match read_groups(s, c) {
         ReadGroups::Got(g, next) => ReadUleb::Got(Uleb { value: g.bits }, next),
@@ -140,7 +151,7 @@ fn extended(bits: u64, count: usize) -> i64
 }
 
 pub fn read_sleb128(s: &[u8], c: Cursor) -> ReadSleb
-    ensures { λ r. ⌜ ofSleb r ≡ valued slebOf (lebBytes (now (s .entry)) c) ⌝ }
+    ensures { λ r. ⌜ saysSleb r ≡ valued slebOf (lebBytes (now (s .entry)) c) ⌝ }
 {
     match read_groups(s, c) {
         ReadGroups::Got(g, next) => {
@@ -154,5 +165,29 @@ pub fn read_sleb128(s: &[u8], c: Cursor) -> ReadSleb
             )
         }
         ReadGroups::Refused(r, left) => ReadSleb::Refused(r, left),
+    }
+}
+
+fn bits_of(v: i64) -> u64
+    ensures { λ r. ⌜ r ≡ bitsOf v ⌝ }
+{
+    if 0 <= v {
+        v as u64
+    } else {
+        0xFFFF_FFFF_FFFF_FFFF - ((-1 - v) as u64)
+    }
+}
+
+pub fn read_sleb128_bits(s: &[u8], c: Cursor) -> ReadHeld
+    ensures { λ r. ⌜ saysHeld r ≡ valued heldOf (slebAt (now (s .entry)) c) ⌝ }
+{
+    match read_sleb128(s, c) {
+        ReadSleb::Refused(r, left) => ReadHeld::Refused(r, left),
+        ReadSleb::Got(v, next) => ReadHeld::Got(
+            Held {
+                bits: bits_of(v.value),
+            },
+            next,
+        ),
     }
 }

@@ -1,3 +1,3 @@
 pub mod Why
 pub mod Handlers
-pub mod Laws
+pub mod Private

@@ -3,22 +3,27 @@
 ghost use mathlib.Core.Path.{_≡_};
 ghost use Prim.Native.Nat.{_+_, _*_, _≤_, _<_, _^_};
 ghost use lib.ListN.{length};
-ghost use Rattle.hbc_bits.specs.Bits.{leAt};
+ghost use Rattle.hbc_io.specs.Outcome.{limit};
 ghost use Rattle.hbc_rows.specs.Rows.{putRows};
-ghost use Rattle.hbc_parsing_handlers.specs.Why.{tableAt, whyAt, why, Found};
-ghost use Rattle.hbc_parsing_handlers.specs.Handlers.{total, handlerRow, written, ReadHandlers};
-use hbc_header::WIDTH;
+ghost use Rattle.hbc_parsing_handlers.specs.Why.{handlerBytes, tableAt, whyAt, why};
+ghost use Rattle.hbc_parsing_handlers.specs.Handlers.{handlerWidth, total, handlerRow, putHandlers, ReadHandlers};
+ghost use Rattle.hbc_parsing_handlers.specs.Private.{Found};
+use hbc_function_record::ROW_FLAGS;
+use hbc_function_record::ROW_INFO_OFFSET;
+use hbc_function_record::WIDTH;
 use hbc_io::Cursor;
 use hbc_io::LIMIT;
 use hbc_io::Moved;
-use hbc_io::ReadU32;
 use hbc_io::Refusal;
-use hbc_rows::Row;
 
-// The words of a function's row that are read.
-const INFO_OFFSET: usize = 6;
+// A count above this is none.
+const MOST: u32 = 1000;
 
-const FLAGS: usize = 8;
+// The bytes of a handler in the file: start, end and target, four each.
+const HANDLER_BYTES: usize = 12;
+
+// The words of its row: function, start, end, target.
+const HANDLER_WIDTH: usize = 4;
 
 // A function's handlers: how many, and where the first one is.
 pub struct Table {
@@ -26,9 +31,8 @@ pub struct Table {
     pub place: usize,
 }
 
-// Handlers that are shown, or the first reason why there are none.
-pub enum Why {
-    Shown(Table),
+// Why a function has no handlers.
+pub enum Reason {
     FlagClear,
     InfoZero,
     InfoPast,
@@ -38,40 +42,35 @@ pub enum Why {
     Cut,
 }
 
+// Handlers that are shown, or the first reason why there are none.
+pub enum Why {
+    Shown(Table),
+    Hidden(Reason),
+}
+
 // So many rows, or the refusal.
 pub enum Listed {
     Rows(usize),
     Refused(Refusal),
 }
 
-// The u32 at a place whose four bytes are there.
-fn word(file: &[u8], at: usize) -> u32
-    requires { ⌜ (at + 4 ≤ length (now file)) × (length (now file) ≤ 2 ^ 30) ⌝ }
-    ensures { λ r. ⌜ r ≡ leAt (now (file .entry)) at 4 ⌝ }
-{
-    match hbc_io::read_u32(file, Cursor { at }) {
-        ReadU32::Got(v, _) => v,
-        ReadU32::Refused(_, _) => 0,
-    }
-}
-
 // What stands at a place: a count and its triples, or why not.
 fn table_at(file: &[u8], at: usize) -> Why
-    requires { ⌜ (at ≤ length (now file)) × (length (now file) ≤ 2 ^ 30) ⌝ }
+    requires { ⌜ at ≤ length (now file) ⌝ }
     ensures { λ r. ⌜ r ≡ tableAt (now (file .entry)) at ⌝ }
 {
     if file.len() < at + 4 {
-        return Why::NoRoom;
+        return Why::Hidden(Reason::NoRoom);
     }
-    let count = word(file, at);
+    let count = hbc_io::u32_at(file, at);
     if count == 0 {
-        return Why::CountZero;
+        return Why::Hidden(Reason::CountZero);
     }
-    if 1000 < count {
-        return Why::CountHigh;
+    if MOST < count {
+        return Why::Hidden(Reason::CountHigh);
     }
-    if file.len() < at + 4 + 12 * (count as usize) {
-        return Why::Cut;
+    if file.len() < at + 4 + HANDLER_BYTES * (count as usize) {
+        return Why::Hidden(Reason::Cut);
     }
     Why::Shown(Table {
         count,
@@ -81,49 +80,49 @@ fn table_at(file: &[u8], at: usize) -> Why
 
 // What the file says of a function with this info_offset and these flags.
 fn why_at(file: &[u8], info: u32, flags: u32) -> Why
-    requires { ⌜ length (now file) ≤ 2 ^ 30 ⌝ }
+    requires { ⌜ length (now file) ≤ limit ⌝ }
     ensures { λ r. ⌜ r ≡ whyAt (now (file .entry)) info flags ⌝ }
 {
     if hbc_rows::field_of(flags, 3, 1) == 0 {
-        return Why::FlagClear;
+        return Why::Hidden(Reason::FlagClear);
     }
     if info == 0 {
-        return Why::InfoZero;
+        return Why::Hidden(Reason::InfoZero);
     }
     let from = info as usize;
     if file.len() <= from {
-        return Why::InfoPast;
+        return Why::Hidden(Reason::InfoPast);
     }
     match hbc_io::align(file, Cursor { at: from }, 4) {
         Moved::To(c) => table_at(file, c.at),
-        Moved::Refused(_, _) => Why::NoRoom,
+        Moved::Refused(_, _) => Why::Hidden(Reason::NoRoom),
     }
 }
 
 // Function `i` of the lent rows: only info_offset and flags are read.
 fn why_row(file: &[u8], functions: &[u32], i: usize) -> Why
-    requires { ⌜ (i < 2 ^ 32) × (length (now file) ≤ 2 ^ 30) ⌝ }
+    requires { ⌜ (i < 2 ^ 32) × (length (now file) ≤ limit) ⌝ }
     ensures { λ r. ⌜ r ≡ why (now (file .entry)) (now (functions .entry)) i ⌝ }
 {
-    let info = hbc_rows::word_of(functions, i * WIDTH + INFO_OFFSET);
-    let flags = hbc_rows::word_of(functions, i * WIDTH + FLAGS);
+    let info = hbc_rows::word_of(functions, i * WIDTH + ROW_INFO_OFFSET);
+    let flags = hbc_rows::word_of(functions, i * WIDTH + ROW_FLAGS);
     why_at(file, info, flags)
 }
 
 // Its handlers: none for every reason.
 fn shown(file: &[u8], functions: &[u32], i: usize) -> Table
-    requires { ⌜ (i < 2 ^ 32) × (length (now file) ≤ 2 ^ 30) ⌝ }
+    requires { ⌜ (i < 2 ^ 32) × (length (now file) ≤ limit) ⌝ }
     ensures { λ r. ⌜ Found (now (file .entry)) (now (functions .entry)) i r ⌝ }
 {
     match why_row(file, functions, i) {
         Why::Shown(t) => t,
-        _ => Table { count: 0, place: 0 },
+        Why::Hidden(_) => Table { count: 0, place: 0 },
     }
 }
 
 // The rows of the first `n` functions, counted.
 fn count_all(file: &[u8], functions: &[u32], n: usize) -> usize
-    requires { ⌜ (n < 2 ^ 32) × (length (now file) ≤ 2 ^ 30) ⌝ }
+    requires { ⌜ (n < 2 ^ 32) × (length (now file) ≤ limit) ⌝ }
     ensures { λ r. ⌜ r ≡ total (now (file .entry)) (now (functions .entry)) n ⌝ }
 {
     let mut sum: usize = 0;
@@ -138,29 +137,27 @@ fn count_all(file: &[u8], functions: &[u32], n: usize) -> usize
 
 // One function's rows, put from row `first` on.
 fn write_one(file: &[u8], function: u32, t: Table, first: usize, rows: &mut [u32])
-    requires { ⌜ (t .place + 12 * t .count ≤ length (now file)) × (length (now file) ≤ 2 ^ 30) × (first < 2 ^ 43) ⌝ }
-    ensures { λ _. ⌜ now (rows .exit) ≡ putRows (handlerRow (now (file .entry)) function (t .place)) first (t .count) (now (rows .entry)) ⌝ }
+    requires { ⌜ (t .place + handlerBytes * t .count ≤ length (now file)) × (length (now file) ≤ limit) × (first < 2 ^ 43) ⌝ }
+    ensures { λ _. ⌜ now (rows .exit) ≡ putRows handlerWidth (handlerRow (now (file .entry)) function (t .place)) first (t .count) (now (rows .entry)) ⌝ }
 {
     let place = t.place;
     let n = t.count as usize;
     let mut j: usize = 0;
     while j < n {
-        let at = place + 12 * j;
-        let row = Row {
-            a: function,
-            b: word(file, at),
-            c: word(file, at + 4),
-            d: word(file, at + 8),
-        };
-        hbc_rows::put_row(rows, first + j, row);
+        let at = place + HANDLER_BYTES * j;
+        let start = hbc_io::u32_at(file, at);
+        let end = hbc_io::u32_at(file, at + 4);
+        let target = hbc_io::u32_at(file, at + 8);
+        let row = [function, start, end, target];
+        hbc_rows::put_row(rows, first + j, &row);
         j += 1;
     }
 }
 
 // All rows, function by function.
 fn write_all(file: &[u8], functions: &[u32], n: usize, rows: &mut [u32])
-    requires { ⌜ (n < 2 ^ 32) × (length (now file) ≤ 2 ^ 30) ⌝ }
-    ensures { λ _. ⌜ now (rows .exit) ≡ written (now (file .entry)) (now (functions .entry)) n (now (rows .entry)) ⌝ }
+    requires { ⌜ (n < 2 ^ 32) × (length (now file) ≤ limit) ⌝ }
+    ensures { λ _. ⌜ now (rows .exit) ≡ putHandlers (now (file .entry)) (now (functions .entry)) n (now (rows .entry)) ⌝ }
 {
     let mut first: usize = 0;
     let mut i: usize = 0;
@@ -185,7 +182,7 @@ pub fn read_handlers(file: &[u8], functions: &[u32], count: u32, rows: &mut [u32
         return Listed::Refused(hbc_io::refuse(11, 0));
     }
     let sum = count_all(file, functions, n);
-    if rows.len() / 4 < sum {
+    if rows.len() / HANDLER_WIDTH < sum {
         return Listed::Refused(hbc_io::refuse(4, 0));
     }
     write_all(file, functions, n, rows);

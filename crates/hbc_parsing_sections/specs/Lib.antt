@@ -1,4 +1,3 @@
-pub mod Answers
 pub mod Sections
-pub mod Laws
 pub mod Laid
+pub mod Private

@@ -1,14 +1,18 @@
--- The trailing sections from a start. Refusals, all at place 0, follow the file: 1, 2 for the start, then each section's bytes (3) and padding (2).
+-- docs/FORMAT.md, section 6.3: the trailing sections from a start.
+-- Refusals, all at place 0, follow the file: 1, 2 for the start, then each section's bytes (3) and padding (2).
 use Prim.Native.Nat.{ℕ, _-_, _*_}
 use mathlib.Core.List.{List}
 use mathlib.Core.Bool.{Bool, cond}
 use Rattle.hbc_io.specs.Outcome.{Outcome, got, cursorAt, left, valued, andThen}
+use Rattle.hbc_io.specs.Answer.{Answer, gives, refuses}
 use Rattle.hbc_io.specs.Plain.{bytesAt, seekTo, alignTo}
 use Rattle.hbc_io.specs.declared.Cursor.{Cursor}
 use Rattle.hbc_parsing_sections.specs.declared.Section.{Section}
 use Rattle.hbc_parsing_sections.specs.declared.Sources.{Sources}
 use Rattle.hbc_parsing_sections.specs.declared.Sources.the-variants as src
 use Rattle.hbc_parsing_sections.specs.declared.Sections.{Sections}
+use Rattle.hbc_parsing_sections.specs.declared.ReadSections.{ReadSections}
+use Rattle.hbc_parsing_sections.specs.declared.ReadSections.the-variants as all
 
 abbrev pub section : ℕ → ℕ → ℕ → Section
 section start size entries = record { start = start; size = size; entries = entries }
@@ -41,3 +45,8 @@ sectionsFrom regexps storage cjs given sources s c =
 unfoldable pub sectionsAt : ℕ → ℕ → ℕ → ℕ → Bool → ℕ → List ℕ → Outcome Sections
 sectionsAt start regexps storage cjs given sources s =
     andThen (seekTo s (cursorAt 0) start) (λ _ c. sectionsFrom regexps storage cjs given sources s c)
+
+-- what each case of the answer says; what is due is sectionsAt without its cursor
+abbrev pub saysSections : ReadSections → Answer Sections
+saysSections (all.Got s) = gives s
+saysSections (all.Refused r) = refuses r

@@ -1,8 +1,9 @@
 // The trailing sections, after parsing.rs: regexp table, regexp storage, CJS pairs, function sources if given, bytecode.
 // A section is found by a read of its bytes and an align, as the Rust finds it; its entries are had by hbc_table's pair call at its start.
 ghost use mathlib.Core.Path.{_≡_};
-ghost use Rattle.hbc_parsing_sections.specs.Answers.{ofSection, ofSources, ofSections, told};
-ghost use Rattle.hbc_parsing_sections.specs.Sections.{sectionAt, pairsAt, sourcesAt, sectionsFrom, sectionsAt};
+ghost use Rattle.hbc_io.specs.Answer.{told};
+ghost use Rattle.hbc_parsing_sections.specs.Sections.{saysSections, sectionAt, pairsAt, sourcesAt, sectionsFrom, sectionsAt};
+ghost use Rattle.hbc_parsing_sections.specs.Private.{saysSection, saysSources};
 use hbc_io::Cursor;
 use hbc_io::Moved;
 use hbc_io::ReadSpan;
@@ -47,7 +48,7 @@ pub enum ReadSources {
 
 // So many bytes at the cursor, padded to 4 in the file.
 fn section_at(file: &[u8], c: Cursor, bytes: usize, entries: u32) -> ReadSection
-    ensures { λ r. ⌜ ofSection r ≡ sectionAt bytes entries (now (file .entry)) c ⌝ }
+    ensures { λ r. ⌜ saysSection r ≡ sectionAt bytes entries (now (file .entry)) c ⌝ }
 {
     let start = c.at;
     match hbc_io::read_bytes(file, c, bytes) {
@@ -68,13 +69,13 @@ fn section_at(file: &[u8], c: Cursor, bytes: usize, entries: u32) -> ReadSection
 
 // So many pairs, 8 bytes each.
 fn pairs_at(file: &[u8], c: Cursor, count: u32) -> ReadSection
-    ensures { λ r. ⌜ ofSection r ≡ pairsAt count (now (file .entry)) c ⌝ }
+    ensures { λ r. ⌜ saysSection r ≡ pairsAt count (now (file .entry)) c ⌝ }
 {
     section_at(file, c, 8 * (count as usize), count)
 }
 
 fn sources_at(file: &[u8], c: Cursor, given: bool, count: u32) -> ReadSources
-    ensures { λ r. ⌜ ofSources r ≡ sourcesAt given count (now (file .entry)) c ⌝ }
+    ensures { λ r. ⌜ saysSources r ≡ sourcesAt given count (now (file .entry)) c ⌝ }
 {
     if given {
         match pairs_at(file, c, count) {
@@ -96,7 +97,7 @@ fn sections_from(
     given: bool,
     sources: u32,
 ) -> ReadSections
-    ensures { λ r. ⌜ ofSections r ≡ told (sectionsFrom regexps storage cjs given sources (now (file .entry)) c) ⌝ }
+    ensures { λ r. ⌜ saysSections r ≡ told (sectionsFrom regexps storage cjs given sources (now (file .entry)) c) ⌝ }
 {
     match pairs_at(file, c, regexps) {
         ReadSection::Refused(r, _) => ReadSections::Refused(r),
@@ -136,7 +137,7 @@ pub fn trailing_sections(
     given: bool,
     sources: u32,
 ) -> ReadSections
-    ensures { λ r. ⌜ ofSections r ≡ told (sectionsAt start regexps storage cjs given sources (now (file .entry))) ⌝ }
+    ensures { λ r. ⌜ saysSections r ≡ told (sectionsAt start regexps storage cjs given sources (now (file .entry))) ⌝ }
 {
     match hbc_io::seek(file, hbc_io::first(), start) {
         Moved::Refused(r, _) => ReadSections::Refused(r),

@@ -1,4 +1,5 @@
--- A reader is a slice and a place in it: what its calls answer is what the cursor's calls answer of those bytes at that place.
+-- docs/FORMAT.md, section 2.6: a reader is a slice and a place in it: what its calls answer is what the cursor's calls answer of those bytes
+-- at that place.
 use Prim.Native.Nat.{ℕ}
 use mathlib.Core.Path.{_≡_}
 use mathlib.Core.List.{List}

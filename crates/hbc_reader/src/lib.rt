@@ -2,9 +2,9 @@
 ghost use mathlib.Core.Path.{_≡_};
 ghost use Rattle.hbc_io.specs.Outcome.{left, cursorAt, valued, andThen};
 ghost use Rattle.hbc_io.specs.Plain.{plainAt, seekTo, bytesAt, partOf};
-ghost use Rattle.hbc_io.specs.Answers.{ofU32, ofMoved, ofSpan};
+ghost use Rattle.hbc_io.specs.Answers.{saysU32, saysMoved, saysSpan};
 ghost use Rattle.hbc_io_leb.specs.Leb.{lebBytes};
-ghost use Rattle.hbc_io_leb.specs.Answers.{ulebOf, ofUleb};
+ghost use Rattle.hbc_io_leb.specs.Answers.{ulebOf, saysUleb};
 ghost use Rattle.hbc_reader.specs.Reader.{bytesOf, cursorOf, after, fresh, Reads, soughtU32};
 use hbc_io::Cursor;
 use hbc_io::Moved;
@@ -26,13 +26,13 @@ fn left_at(s: &[u8], at: usize) -> usize
 }
 
 fn seek_at(s: &[u8], at: usize, to: usize) -> Moved
-    ensures { λ r. ⌜ ofMoved r ≡ seekTo (now (s .entry)) (cursorAt at) to ⌝ }
+    ensures { λ r. ⌜ saysMoved r ≡ seekTo (now (s .entry)) (cursorAt at) to ⌝ }
 {
     hbc_io::seek(s, Cursor { at }, to)
 }
 
 fn after_seek(r: Moved) -> usize
-    ensures { λ n. ⌜ n ≡ after (ofMoved r) ⌝ }
+    ensures { λ n. ⌜ n ≡ after (saysMoved r) ⌝ }
 {
     match r {
         Moved::To(c) => c.at,
@@ -41,13 +41,13 @@ fn after_seek(r: Moved) -> usize
 }
 
 fn u32_at(s: &[u8], at: usize) -> ReadU32
-    ensures { λ r. ⌜ ofU32 r ≡ plainAt 4 (now (s .entry)) (cursorAt at) ⌝ }
+    ensures { λ r. ⌜ saysU32 r ≡ plainAt 4 (now (s .entry)) (cursorAt at) ⌝ }
 {
     hbc_io::read_u32(s, Cursor { at })
 }
 
 fn after_u32(r: ReadU32) -> usize
-    ensures { λ n. ⌜ n ≡ after (ofU32 r) ⌝ }
+    ensures { λ n. ⌜ n ≡ after (saysU32 r) ⌝ }
 {
     match r {
         ReadU32::Got(_, c) => c.at,
@@ -56,13 +56,13 @@ fn after_u32(r: ReadU32) -> usize
 }
 
 fn uleb_at(s: &[u8], at: usize) -> ReadUleb
-    ensures { λ r. ⌜ ofUleb r ≡ valued ulebOf (lebBytes (now (s .entry)) (cursorAt at)) ⌝ }
+    ensures { λ r. ⌜ saysUleb r ≡ valued ulebOf (lebBytes (now (s .entry)) (cursorAt at)) ⌝ }
 {
     hbc_io_leb::read_uleb128(s, Cursor { at })
 }
 
 fn after_uleb(r: ReadUleb) -> usize
-    ensures { λ n. ⌜ n ≡ after (ofUleb r) ⌝ }
+    ensures { λ n. ⌜ n ≡ after (saysUleb r) ⌝ }
 {
     match r {
         ReadUleb::Got(_, c) => c.at,
@@ -71,13 +71,13 @@ fn after_uleb(r: ReadUleb) -> usize
 }
 
 fn span_at(s: &[u8], at: usize, len: usize) -> ReadSpan
-    ensures { λ r. ⌜ ofSpan r ≡ bytesAt len (now (s .entry)) (cursorAt at) ⌝ }
+    ensures { λ r. ⌜ saysSpan r ≡ bytesAt len (now (s .entry)) (cursorAt at) ⌝ }
 {
     hbc_io::read_bytes(s, Cursor { at }, len)
 }
 
 fn after_span(r: ReadSpan) -> usize
-    ensures { λ n. ⌜ n ≡ after (ofSpan r) ⌝ }
+    ensures { λ n. ⌜ n ≡ after (saysSpan r) ⌝ }
 {
     match r {
         ReadSpan::Got(_, c) => c.at,
@@ -105,7 +105,7 @@ impl<'a> ByteReader<'a> {
     }
 
     pub fn seek(&mut self, pos: usize) -> Moved
-        ensures { λ r. ⌜ Reads (λ s c. seekTo s c pos) (now (self .entry)) (ofMoved r) (now (self .exit)) ⌝ }
+        ensures { λ r. ⌜ Reads (λ s c. seekTo s c pos) (now (self .entry)) (saysMoved r) (now (self .exit)) ⌝ }
     {
         let answer = seek_at(self.data, self.pos, pos);
         self.pos = after_seek(answer);
@@ -113,7 +113,7 @@ impl<'a> ByteReader<'a> {
     }
 
     pub fn read_u32(&mut self) -> ReadU32
-        ensures { λ r. ⌜ Reads (plainAt 4) (now (self .entry)) (ofU32 r) (now (self .exit)) ⌝ }
+        ensures { λ r. ⌜ Reads (plainAt 4) (now (self .entry)) (saysU32 r) (now (self .exit)) ⌝ }
     {
         let answer = u32_at(self.data, self.pos);
         self.pos = after_u32(answer);
@@ -121,7 +121,7 @@ impl<'a> ByteReader<'a> {
     }
 
     pub fn read_uleb128(&mut self) -> ReadUleb
-        ensures { λ r. ⌜ Reads (λ s c. valued ulebOf (lebBytes s c)) (now (self .entry)) (ofUleb r) (now (self .exit)) ⌝ }
+        ensures { λ r. ⌜ Reads (λ s c. valued ulebOf (lebBytes s c)) (now (self .entry)) (saysUleb r) (now (self .exit)) ⌝ }
     {
         let answer = uleb_at(self.data, self.pos);
         self.pos = after_uleb(answer);
@@ -129,7 +129,7 @@ impl<'a> ByteReader<'a> {
     }
 
     pub fn read_bytes(&mut self, len: usize) -> ReadSpan
-        ensures { λ r. ⌜ Reads (bytesAt len) (now (self .entry)) (ofSpan r) (now (self .exit)) ⌝ }
+        ensures { λ r. ⌜ Reads (bytesAt len) (now (self .entry)) (saysSpan r) (now (self .exit)) ⌝ }
     {
         let answer = span_at(self.data, self.pos, len);
         self.pos = after_span(answer);
@@ -146,7 +146,7 @@ impl<'a> ByteReader<'a> {
 
 // The seek's refusal if it was refused, else what was read after it.
 fn joined(m: Moved, r: ReadU32) -> ReadU32
-    ensures { λ q. ⌜ ofU32 q ≡ andThen (ofMoved m) (λ _ _. ofU32 r) ⌝ }
+    ensures { λ q. ⌜ saysU32 q ≡ andThen (saysMoved m) (λ _ _. saysU32 r) ⌝ }
 {
     match m {
         Moved::To(_) => r,
@@ -156,7 +156,7 @@ fn joined(m: Moved, r: ReadU32) -> ReadU32
 
 // The u32 at a place, through a reader: a caller of this one needs no reader of its own.
 pub fn read_u32_at(s: &[u8], pos: usize) -> ReadU32
-    ensures { λ r. ⌜ ofU32 r ≡ soughtU32 (now (s .entry)) pos ⌝ }
+    ensures { λ r. ⌜ saysU32 r ≡ soughtU32 (now (s .entry)) pos ⌝ }
 {
     let mut reader = ByteReader::new(s);
     let moved = reader.seek(pos);

@@ -1,3 +1,2 @@
 pub mod Rows
-pub mod Laws
-pub mod RowsAt
+pub mod Until

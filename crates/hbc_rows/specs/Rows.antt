@@ -1,39 +1,35 @@
--- Lent tables: words put in front, and rows of four words put at their places, over what is there.
+-- docs/FORMAT.md, section 1.5: lent tables of words: one word, words put in front, and rows of any width put at their places, over what is there.
 use Prim.Native.Nat.{ℕ, zero, suc, _+_, _*_, _/_}
 use mathlib.Core.List.{List}
 use mathlib.Core.Bool.{cond}
-use lib.ListN.{length, getD, set}
+use lib.ListN.{length, getD, set, take, drop}
 use lib.Dec.{ltb}
-use Rattle.hbc_rows.specs.declared.Row.{Row}
+use lib.Seq.{sets}
 
 -- word i of a table, 0 past its end
 unfoldable pub entryAt : List ℕ → ℕ → ℕ
 entryAt t i = getD t i 0
-
-abbrev pub row : ℕ → ℕ → ℕ → ℕ → Row
-row a b c d = record { a = a; b = b; c = c; d = d }
-
--- row k of a table
-unfoldable pub rowAt : List ℕ → ℕ → Row
-rowAt t k = row (entryAt t (k * 4)) (entryAt t (k * 4 + 1)) (entryAt t (k * 4 + 2)) (entryAt t (k * 4 + 3))
-
--- a table has as many rows as four words go into it
-abbrev pub rows : List ℕ → ℕ
-rows t = length t / 4
 
 -- the table t with f 0 to f (n - 1) in front
 unfoldable pub filled : (ℕ → ℕ) → ℕ → List ℕ → List ℕ
 filled f zero t = t
 filled f (suc n) t = set (filled f n t) n (f n)
 
--- the table with row k put in its place, if it has one
-unfoldable pub putRow : List ℕ → ℕ → Row → List ℕ
-putRow t k r =
-    cond (ltb k (rows t))
-    (set (set (set (set t (k * 4) (r .a)) (k * 4 + 1) (r .b)) (k * 4 + 2) (r .c)) (k * 4 + 3) (r .d))
-    t
+-- ---- rows of w words each: a function's, a string's, a scope's, a pair
+
+-- a table has as many rows as w words go into it
+abbrev pub rows : ℕ → List ℕ → ℕ
+rows w t = length t / w
+
+-- row k of a table
+unfoldable pub rowAt : ℕ → List ℕ → ℕ → List ℕ
+rowAt w t k = take w (drop (k * w) t)
+
+-- the table with a row put in place k, if it has such a row
+unfoldable pub putRow : ℕ → List ℕ → ℕ → List ℕ → List ℕ
+putRow w t k row = cond (ltb (length t) (k * w + w)) t (sets t (k * w) row)
 
 -- the table with rows f 0 to f (n - 1) put from row base on
-unfoldable pub putRows : (ℕ → Row) → ℕ → ℕ → List ℕ → List ℕ
-putRows f base zero t = t
-putRows f base (suc n) t = putRow (putRows f base n t) (base + n) (f n)
+unfoldable pub putRows : ℕ → (ℕ → List ℕ) → ℕ → ℕ → List ℕ → List ℕ
+putRows w f base zero t = t
+putRows w f base (suc n) t = putRow w (putRows w f base n t) (base + n) (f n)

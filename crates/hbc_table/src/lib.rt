@@ -1,13 +1,15 @@
 // Tables of u32 and of pairs of u32, after table.rs: from a cursor into a table that the caller lends.
 // A kind run is one u32, in the file as in the table, so that kind runs are read as a table of u32.
 ghost use mathlib.Core.Path.{_≡_};
-ghost use Prim.Native.Nat.{_+_, _*_, _≤_, _<_};
+ghost use Prim.Native.Nat.{_+_, _*_, _^_, _≤_, _<_};
 ghost use lib.ListN.{length};
 ghost use Rattle.hbc_bits.specs.Bits.{leAt};
 ghost use Rattle.hbc_rows.specs.Rows.{filled};
 ghost use Rattle.hbc_table.specs.Table.{wordsFrom, ReadWords, ReadTable};
 use hbc_io::Cursor;
+use hbc_io::LIMIT;
 use hbc_io::Moved;
+use hbc_io::refuse;
 
 fn wide(b: u8) -> u32
     ensures { λ r. ⌜ (r ≡ b) × (r < 256) ⌝ }
@@ -37,22 +39,22 @@ fn fill(s: &[u8], at: usize, n: usize, table: &mut [u32])
 
 // `n` words, in entries of `bytes` bytes each. Entries are of one size, so that one comparison finds the first that is cut.
 fn read_words(s: &[u8], c: Cursor, n: usize, bytes: usize, table: &mut [u32]) -> Moved
-    requires { ⌜ (0 < bytes) × (n ≤ 8589934592) ⌝ }
+    requires { ⌜ (0 < bytes) × (n ≤ 2 ^ 33) ⌝ }
     ensures { λ r. ⌜ ReadWords bytes (now (s .entry)) c n (now (table .entry)) r (now (table .exit)) ⌝ }
 {
     let at = c.at;
-    if hbc_io::LIMIT < s.len() {
-        return Moved::Refused(hbc_io::refuse(1, 0), c);
+    if LIMIT < s.len() {
+        return Moved::Refused(refuse(1, 0), c);
     }
     if s.len() < at {
-        return Moved::Refused(hbc_io::refuse(2, 0), c);
+        return Moved::Refused(refuse(2, 0), c);
     }
     if table.len() < n {
-        return Moved::Refused(hbc_io::refuse(4, 0), c);
+        return Moved::Refused(refuse(4, 0), c);
     }
     let left = s.len() - at;
     if left < 4 * n {
-        return Moved::Refused(hbc_io::refuse(3, (left / bytes) as u32), c);
+        return Moved::Refused(refuse(3, (left / bytes) as u32), c);
     }
     fill(s, at, n, table);
     Moved::To(Cursor { at: at + 4 * n })

@@ -1,2 +1,1 @@
 pub mod StringBytes
-pub mod Laws

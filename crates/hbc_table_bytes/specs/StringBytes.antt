@@ -1,27 +1,32 @@
--- One string's bytes, by its row: start, byte length, 0 valid. The marks are not read.
-use Prim.Native.Nat.{ℕ, _+_, _-_, _*_}
+-- docs/FORMAT.md, section 4.6: one string's bytes, by its row. The marks are not read.
+use Prim.Native.Nat.{ℕ, _-_}
 use mathlib.Core.List.{List}
 use mathlib.Core.Bool.{cond}
 use lib.ListN.{length}
 use lib.Dec.{ltb, eqb}
 use Rattle.hbc_io.specs.Plain.{partOf, spanOf}
 use Rattle.hbc_io.specs.declared.Span.{Span}
-use Rattle.hbc_rows.specs.Rows.{entryAt, rows}
+use Rattle.hbc_rows.specs.Rows.{rows, rowAt}
+use Rattle.hbc_table_strings.specs.declared.row.StringRow.{StringRow}
+use Rattle.hbc_table_strings.specs.Row.{stringWidth, stringRow}
 
--- the row's span, empty if the row isn't there or is marked invalid (all but 0 is invalid)
+-- the span that a row says, empty if it is marked invalid (all but 0 is invalid)
+abbrev pub spanOfRow : StringRow → Span
+spanOfRow r = cond (eqb (r .invalid) 0) (spanOf (r .start) (r .bytes)) (spanOf 0 0)
+
+-- that of row k, empty if there is no such row
 unfoldable pub spanAt : List ℕ → ℕ → Span
-spanAt t k =
-    cond (ltb k (rows t)) (cond (eqb (entryAt t (k * 4 + 2)) 0) (spanOf (entryAt t (k * 4)) (entryAt t (k * 4 + 1))) (spanOf 0 0)) (spanOf 0 0)
+spanAt t k = cond (ltb k (rows stringWidth t)) (spanOfRow (stringRow (rowAt stringWidth t k))) (spanOf 0 0)
 
 -- that part of the storage itself, empty if it leaves the storage
 unfoldable pub stringBytes : List ℕ → List ℕ → ℕ → List ℕ
 stringBytes s t k = partOf s (spanAt t k)
 
 -- the span if it lies within the storage, else the empty beginning
-abbrev pub within : List ℕ → Span → Span
-within s p =
+abbrev pub spanIn : List ℕ → Span → Span
+spanIn s p =
     cond (ltb (length s) (p .start)) (spanOf 0 0) (cond (ltb (length s - p .start) (p .len)) (spanOf 0 0) p)
 
 -- where the part is
 unfoldable pub stringSpan : List ℕ → List ℕ → ℕ → Span
-stringSpan s t k = within s (spanAt t k)
+stringSpan s t k = spanIn s (spanAt t k)

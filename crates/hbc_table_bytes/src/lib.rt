@@ -1,22 +1,26 @@
 // One string's bytes: the part of the storage that its row names.
 ghost use mathlib.Core.Path.{_≡_};
-ghost use Prim.Native.Nat.{_*_, _/_, _<_};
 ghost use Rattle.hbc_table_bytes.specs.StringBytes.{spanAt, stringSpan, stringBytes};
 use hbc_io::Span;
+use hbc_io::part;
+use hbc_rows::word_of;
+use hbc_table_strings::STRING_BYTES;
+use hbc_table_strings::STRING_INVALID;
+use hbc_table_strings::STRING_START;
+use hbc_table_strings::STRING_WIDTH;
 
 // The span that row `index` says, whatever the storage.
 fn span_at(rows: &[u32], index: usize) -> Span
     ensures { λ r. ⌜ r ≡ spanAt (now (rows .entry)) index ⌝ }
 {
-    if index < rows.len() / 4 {
-        let at = index * 4;
-        if hbc_rows::word_of(rows, at + 2) == 0 {
+    if index < rows.len() / STRING_WIDTH {
+        let at = index * STRING_WIDTH;
+        if word_of(rows, at + STRING_INVALID) == 0 {
             return Span {
-                start: hbc_rows::word_of(rows, at) as usize,
-                len: hbc_rows::word_of(rows, at + 1) as usize,
+                start: word_of(rows, at + STRING_START) as usize,
+                len: word_of(rows, at + STRING_BYTES) as usize,
             };
         }
-        return Span { start: 0, len: 0 };
     }
     Span { start: 0, len: 0 }
 }
@@ -39,5 +43,5 @@ pub fn string_span(storage: &[u8], rows: &[u32], index: usize) -> Span
 pub fn string_bytes<'s, 'r>(storage: &'s [u8], rows: &'r [u32], index: usize) -> &'s [u8]
     ensures { λ r. ⌜ now r ≡ stringBytes (now (storage .entry)) (now (rows .entry)) index ⌝ }
 {
-    hbc_io::part(storage, span_at(rows, index))
+    part(storage, span_at(rows, index))
 }

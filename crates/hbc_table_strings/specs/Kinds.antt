@@ -1,11 +1,11 @@
--- Kind runs: bit 31 set is identifier, the low 31 bits the length.
+-- docs/FORMAT.md, section 4.2: kind runs. Bit 31 set is identifier, the low 31 bits the length.
 use Prim.Native.Nat.{ℕ, zero, suc, _+_, _-_}
 use mathlib.Core.List.{List}
 use mathlib.Core.Bool.{cond}
 use lib.Dec.{eqb}
 use Rattle.hbc_bits.specs.Bits.{field}
 use Rattle.hbc_rows.specs.Rows.{entryAt}
-use Rattle.hbc_table_strings.specs.declared.Held.{Held}
+use Rattle.hbc_table_strings.specs.declared.kinds.Held.{Held}
 
 -- 1 identifier, 0 string; past the last run a string
 unfoldable pub runKind : List ℕ → ℕ → ℕ

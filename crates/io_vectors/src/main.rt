@@ -1,6 +1,6 @@
 // Replays recorded answers: the worked examples of DWARF 5, section 7.6, which stand here, and then the published Rust's, from standard input.
 // A record: what is called, the cursor, an argument of 8 bytes, how many bytes of input and they, the refusal's number (0 for none), the cursor
-// afterwards, and the value in 8 bytes (docs/VECTORS.md).
+// afterwards, and the value in 8 bytes (docs/COMPARISON.md).
 ghost use Prim.Native.Nat.{_≤_, _<_};
 ghost use lib.ListN.{length};
 use hbc_io::Cursor;
@@ -490,8 +490,8 @@ fn see(op: usize, s: &[u8], c: Cursor, argument: usize, want: u64) -> Seen {
     match op {
         7 => see_uleb128(s, c, want),
         8 => see_sleb128(s, c, want),
-        9 => see_span(hbc_io_text::read_cstring(s, c), want),
-        10 => see_span(hbc_io_text::read_length_prefixed_string(s, c), want),
+        9 => see_span(hbc_io_strings::read_cstring(s, c), want),
+        10 => see_span(hbc_io_strings::read_length_prefixed_string(s, c), want),
         11 => see_span(hbc_io::read_bytes(s, c, argument), want),
         12 => see_moved(hbc_io::seek(s, c, argument)),
         13 => see_moved(hbc_io::align(s, c, argument)),

@@ -1,4 +1,4 @@
-// Replays recorded answers of the published Rust on handlers and trailing sections, from standard input (docs/VECTORS.md).
+// Replays recorded answers of the published Rust on handlers and trailing sections, from standard input (docs/COMPARISON.md).
 use hbc_parsing_handlers::Listed;
 use hbc_parsing_sections::ReadSections;
 use hbc_parsing_sections::Section;

@@ -1,4 +1,4 @@
-// Replays recorded answers of the published Rust on string tables, from standard input (docs/VECTORS.md).
+// Replays recorded answers of the published Rust on string tables, from standard input (docs/COMPARISON.md).
 use hbc_io::Cursor;
 use hbc_io::Moved;
 use hbc_table_strings::Decoded;

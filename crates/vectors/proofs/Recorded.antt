@@ -16,7 +16,7 @@ use Rattle.hbc_io.specs.declared.Span.{Span}
 use Rattle.hbc_io_leb.specs.Leb.{lebBytes}
 use Rattle.hbc_io_leb.specs.Answers.{ulebOf}
 use Rattle.hbc_io_leb.specs.declared.Uleb.{Uleb}
-use Rattle.hbc_io_text.specs.Text.{prefixed}
+use Rattle.hbc_io_strings.specs.Text.{prefixed}
 use Rattle.vectors.specs.Records.{told, numbered, numberAt, lowOf, spanAt, pastAt, recordOf, recordAt, placeOf, wordsTo, wordsOf, wordsIn, judged, judgedOn, wordAt, longAt, heldTo, heldBy, heldAt, heldLongsAt, met, saidAt, toldAt, byteAt, sameTo, sameOf, counts, oneMore, countedOn}
 use Rattle.vectors.specs.declared.Number.{Number}
 use Rattle.vectors.specs.declared.Record.{Record}

@@ -1,10 +1,11 @@
 // What the programs share that replay recorded answers: numbers, bytes and tables of a record, and the count of those that differ.
-// A record is a group, how many bytes follow, and they (docs/VECTORS.md). All reads are total: what is cut reads as 0, or as nothing.
+// A record is a group, how many bytes follow, and they (docs/COMPARISON.md). All reads are total: what is cut reads as 0, or as nothing.
 ghost use mathlib.Core.Path.{_≡_};
 ghost use mathlib.Core.Bool.{_&&_};
 ghost use Prim.Native.Nat.{min};
 ghost use lib.ListN.{length};
-ghost use Rattle.vectors.specs.Records.{told, numberAt, lowOf, spanAt, pastAt, bytesOf, recordAt, wordsOf, wordsIn, firstOf, judgedOn, wordAt, longAt, heldAt, heldLongsAt, saidAt, toldAt, byteAt, sameOf, counts, oneMore, countedOn};
+ghost use Rattle.vectors.specs.Records.{told, numberAt, lowOf, spanAt, pastAt, bytesOf, recordAt, wordsOf, wordsIn, firstOf, judgedOn};
+ghost use Rattle.vectors.specs.Records.{wordAt, longAt, heldAt, heldLongsAt, saidAt, toldAt, byteAt, sameOf, counts, oneMore, countedOn};
 use hbc_io::Cursor;
 use hbc_io::ReadSpan;
 use hbc_io::Refusal;
@@ -130,7 +131,7 @@ pub fn low(v: u64) -> u32
 fn span_at(s: &[u8], at: usize) -> Span
     ensures { λ r. ⌜ r ≡ spanAt (now (s .entry)) at ⌝ }
 {
-    match hbc_io_text::read_length_prefixed_string(s, Cursor { at }) {
+    match hbc_io_strings::read_length_prefixed_string(s, Cursor { at }) {
         ReadSpan::Got(p, _) => p,
         ReadSpan::Refused(_, _) => Span { start: 0, len: 0 },
     }
@@ -147,7 +148,7 @@ pub fn bytes(s: &[u8], at: usize) -> &[u8]
 pub fn past(s: &[u8], at: usize) -> usize
     ensures { λ r. ⌜ r ≡ pastAt (now (s .entry)) at ⌝ }
 {
-    match hbc_io_text::read_length_prefixed_string(s, Cursor { at }) {
+    match hbc_io_strings::read_length_prefixed_string(s, Cursor { at }) {
         ReadSpan::Got(_, c) => c.at,
         ReadSpan::Refused(_, _) => s.len(),
     }
@@ -181,7 +182,10 @@ fn lesser(n: u64, len: usize) -> usize
 
 // A list of words: how many, and they. What the table has no room for is left out.
 pub fn words_at(s: &[u8], at: usize, table: &mut [u32]) -> Words
-    ensures { λ r. ⌜ (r ≡ wordsOf (now (s .entry)) at (length (now (table .entry)))) × (now (table .exit) ≡ wordsIn (now (s .entry)) at (now (table .entry))) ⌝ }
+    ensures { λ r. ⌜
+        (r ≡ wordsOf (now (s .entry)) at (length (now (table .entry))))
+        × (now (table .exit) ≡ wordsIn (now (s .entry)) at (now (table .entry)))
+        ⌝ }
 {
     let n = number_at(s, at);
     let count = lesser(n.value, table.len());

@@ -1,6 +1,8 @@
 //! The function tables: the whole table at once, and what a small edit costs.
 
+use bisquepond::function::FunctionRow;
 use bisquepond::sys::*;
+use bisquepond::Row as _;
 use harness::Random;
 use published::file::parser::function::parse_function_headers;
 use published::format::{empty_header, FunctionHeaderLayout, FLAG_OVERFLOWED};
@@ -9,7 +11,7 @@ use published::io::ByteReader;
 use crate::table::{Bench, SIZES};
 use crate::whole::{heading, Whole};
 
-const ROW: usize = 16;
+const ROW: usize = FunctionRow::WORDS;
 const START: usize = 128;
 
 /// A layout's number and name, the bytes of a header, and those of a large header with its padding.

@@ -1,6 +1,9 @@
 //! Handlers and trailing sections.
 
+use bisquepond::function::FunctionRow;
+use bisquepond::parsing::HandlerRow;
 use bisquepond::sys::*;
+use bisquepond::Row as _;
 use harness::Random;
 use published::file::parser::parsing;
 use published::format::{
@@ -12,8 +15,8 @@ use published::io::ByteReader;
 use crate::table::{Bench, SIZES};
 use crate::whole::{heading, Whole};
 
-const FUNCTION: usize = 16;
-const ROW: usize = 4;
+const FUNCTION: usize = FunctionRow::WORDS;
+const ROW: usize = HandlerRow::WORDS;
 
 pub fn rows(bench: &Bench) {
     heading(

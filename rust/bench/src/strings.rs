@@ -1,6 +1,8 @@
 //! The string tables: a whole table of words or pairs at once, and all strings at once.
 
 use bisquepond::sys::*;
+use bisquepond::table::StringRow;
+use bisquepond::Row as _;
 use harness::Random;
 use published::file::parser::table::{decode_string_table, parse_pair_table, parse_u32_vec};
 use published::file::structure::{StringKindEntry, StringKindType, StringTableEntry};
@@ -10,7 +12,7 @@ use crate::table::{Bench, SIZES};
 use crate::whole::{heading, Whole};
 
 /// Words in a row.
-const ROW: usize = 4;
+const ROW: usize = StringRow::WORDS;
 
 pub fn rows(bench: &Bench) {
     heading(

@@ -21,6 +21,13 @@ pub const fn place(code: u64) -> u32 {
     code as u32
 }
 
+/// The most bytes that are read: a longer slice is refused 1.
+///
+/// ```
+/// assert_eq!(bisquepond::sys::LIMIT, 1 << 30);
+/// ```
+pub const LIMIT: usize = 1 << 30;
+
 #[rustfmt::skip]
 unsafe extern "C" {
     pub fn hbc_bits(word: u64, first: u32, width: u32) -> u64;

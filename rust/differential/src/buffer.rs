@@ -1,79 +1,17 @@
 //! The literals: buffer.rs of the published Rust beside the calls of module buffer of libhbc_c.a.
 
+mod case;
+mod differences;
 mod groups;
-pub mod hostile;
-mod literal;
-pub mod record;
-mod series;
+mod hostile;
+mod record;
 
-pub use groups::compare;
+use crate::run::Layer;
 
-use std::sync::OnceLock;
-
-use published::error::Error;
-use published::file::parser::parsing;
-use published::file::structure::{LiteralValue, StringTableEntry};
-use published::file::BytecodeFile;
-use published::format::{empty_header, FunctionHeaderLayout};
-use published::io::ByteReader;
-
-use crate::run::Difference;
-
-/// Strings of the file: some numbers are found there, others are not.
-const STRINGS: u32 = 300;
-
-/// A file of nothing but strings, each a text that tells its number. Where there is none, the Rust's own text does.
-fn file() -> &'static BytecodeFile {
-    static FILE: OnceLock<BytecodeFile> = OnceLock::new();
-    FILE.get_or_init(|| {
-        let header = empty_header(FunctionHeaderLayout::Legacy16);
-        let mut file = parsing::trailing(&[], &mut ByteReader::new(&[]), header).unwrap();
-        let entry = |i| StringTableEntry {
-            value: format!("string {i}"),
-            is_utf16: false,
-            is_identifier: false,
-        };
-        file.strings = (0..STRINGS).map(entry).collect();
-        file
-    })
-}
-
-/// Kind and payload of document 01 for a value of the Rust.
-fn told(value: &LiteralValue) -> (u32, u64) {
-    match value {
-        LiteralValue::Null => (0, 0),
-        LiteralValue::Bool(true) => (1, 0),
-        LiteralValue::Bool(false) => (2, 0),
-        LiteralValue::Number(number) => (3, number.to_bits()),
-        LiteralValue::String(text) => (4, string_number(text)),
-        LiteralValue::Integer(number) => (5, *number as u32 as u64),
-        LiteralValue::Undefined => panic!("three bits of a tag have no such value"),
-    }
-}
-
-fn string_number(text: &str) -> u64 {
-    let found = text.strip_prefix("string ");
-    let missing = || text.strip_prefix("<string:")?.strip_suffix('>');
-    let digits = found.or_else(missing).expect("a text that tells a number");
-    digits.parse().expect("a number")
-}
-
-/// The refusal number of document 01 for an error of the Rust.
-fn refusal(error: &Error) -> u32 {
-    match error {
-        Error::Parse(text) if text.starts_with("buffer offset out of range") => 7,
-        Error::Parse(text) if text.starts_with("unexpected end of file") => 3,
-        error => panic!("not an error of buffer.rs: {error}"),
-    }
-}
-
-/// `Literal TAG CURSOR BYTES` or `Series OFFSET COUNT KINDS PAYLOADS BYTES`, as a difference prints them: KINDS and
-/// PAYLOADS are how many words are lent, and no bytes are `-`. A series is also read as an object's.
-pub fn replay(words: &[String]) -> Result<String, Difference> {
-    match words {
-        [call, arguments @ ..] if call == "Literal" => literal::replay(arguments),
-        [call, arguments @ ..] if call == "Series" => series::replay(arguments),
-        _ => Err("--replay buffer needs Literal or Series".to_string()),
-    }
-    .map_err(|why| Difference(vec![why]))?
-}
+pub const LAYER: Layer = Layer {
+    name: "buffer",
+    compare: groups::compare,
+    hostile: hostile::soak,
+    record: record::write,
+    replay: case::replay,
+};

@@ -8,9 +8,8 @@ use std::process::Command;
 use bisquepond::Refusal;
 use published::error::{Error, Result as Published};
 
-use crate::run::{number, Difference, Run};
-
-pub type Compared = Result<(), Difference>;
+use crate::case::{Compared, Difference, Words};
+use crate::run::Run;
 
 /// An answer of the Rust, its error as a text.
 pub fn text<T>(answer: Published<T>) -> Result<T, String> {
@@ -25,20 +24,32 @@ pub fn told<T>(answer: Result<T, Refusal>) -> Result<T, (u32, u32)> {
     answer.map_err(|refusal| (refusal.number, refusal.place))
 }
 
-/// One row: what each side answers, and what the document says that it answers.
-pub fn row<R: PartialEq + Debug, O: PartialEq + Debug>(
-    run: &mut Run,
-    what: &str,
-    rust: (R, R),
-    ours: (O, O),
-) -> Compared {
-    side(what, "the Rust", rust)?;
-    side(what, "libhbc_c", ours)?;
-    run.equal();
-    Ok(())
+/// One row, to be held against what each side answers.
+pub struct Row<'a> {
+    run: &'a mut Run,
+    what: &'a str,
 }
 
-fn side<T: PartialEq + Debug>(what: &str, side: &str, (given, listed): (T, T)) -> Compared {
+pub fn row<'a>(run: &'a mut Run, what: &'a str) -> Row<'a> {
+    Row { run, what }
+}
+
+impl Row<'_> {
+    /// What the Rust answers, and what the document says that it answers.
+    pub fn rust<T: PartialEq + Debug>(self, given: T, listed: T) -> Result<Self, Difference> {
+        side(self.what, "the Rust", given, listed)?;
+        Ok(self)
+    }
+
+    /// The same of ours.
+    pub fn ours<T: PartialEq + Debug>(self, given: T, listed: T) -> Compared {
+        side(self.what, "libhbc_c", given, listed)?;
+        self.run.equal();
+        Ok(())
+    }
+}
+
+fn side<T: PartialEq + Debug>(what: &str, side: &str, given: T, listed: T) -> Compared {
     if given == listed {
         return Ok(());
     }
@@ -81,18 +92,15 @@ pub fn bounded(words: &[&str]) -> End {
 
 /// `SIDE BYTES`: what `Rust` or `ours` says of so many zeros.
 pub fn zeros(
-    words: &[String],
+    words: &mut Words,
     rust: impl FnOnce(&[u8]) -> String,
     ours: impl FnOnce(&[u8]) -> String,
 ) -> Result<String, Difference> {
-    let wrong = |why| Difference(vec![why]);
-    let [side, bytes] = words else {
-        return Err(wrong("Zeros needs SIDE BYTES".to_string()));
-    };
-    let file = vec![0; number(bytes).map_err(wrong)?];
+    let side = words.next()?.to_string();
+    let file = vec![0; words.number()?];
     match side.as_str() {
         "Rust" => Ok(rust(&file)),
         "ours" => Ok(ours(&file)),
-        _ => Err(wrong("SIDE is Rust or ours".to_string())),
+        _ => Err("SIDE is Rust or ours".to_string().into()),
     }
 }

@@ -4,13 +4,12 @@
 
 use std::time::Instant;
 
+use bisquepond::sys::LIMIT;
 use harness::{count, Random};
 
-use crate::io::LIMIT;
+use crate::case::{Compared, Difference};
+use crate::inputs::fill;
 use crate::meter;
-use crate::run::Difference;
-
-pub type Compared = Result<(), Difference>;
 
 /// What a case deals with, in bytes: those that a call reads and writes, and the memory that the comparison needs.
 #[derive(Clone, Copy)]
@@ -21,10 +20,11 @@ pub struct Size {
 
 /// Work and memory are one: a file, and little besides.
 pub fn file_of(bytes: usize) -> Size {
-    Size {
-        work: bytes,
-        memory: bytes,
-    }
+    size(bytes, bytes)
+}
+
+pub fn size(work: usize, memory: usize) -> Size {
+    Size { work, memory }
 }
 
 pub struct Soak {
@@ -86,6 +86,19 @@ impl Soak {
         Random::new(seeds.word() ^ group)
     }
 
+    /// One case on a file of so many bytes, one piece again and again.
+    pub fn filled(
+        &mut self,
+        name: &str,
+        (len, piece): (usize, &[u8]),
+        compare: impl FnOnce(&mut Vec<u8>) -> Result<String, Difference>,
+    ) -> Compared {
+        self.case(name, file_of(len), |file| {
+            fill(file, len, piece);
+            compare(file)
+        })
+    }
+
     /// One case: `compare` makes its input, in the file that is lent to it if it needs one, compares, and says what was
     /// answered.
     pub fn case(
@@ -130,12 +143,12 @@ impl Soak {
         self.calls += cost.calls;
         self.longest = self.longest.max(cost.longest);
         self.grown = self.grown.max(cost.grown);
-        let wrong = |what: String| Err(Difference(vec![format!("{} {name}: {what}", self.layer)]));
-        match cost {
-            _ if cost.calls == 0 => wrong("no call was made".to_string()),
-            _ if cost.grown > FLAT => wrong(format!("memory grew by {} bytes", cost.grown)),
-            _ => Ok(()),
-        }
+        let wrong = match cost {
+            _ if cost.calls == 0 => "no call was made".to_string(),
+            _ if cost.grown > FLAT => format!("memory grew by {} bytes", cost.grown),
+            _ => return Ok(()),
+        };
+        Err(format!("{} {name}: {wrong}", self.layer).into())
     }
 
     /// Cases at random, until the layer's time is up.
@@ -145,11 +158,7 @@ impl Soak {
         mut compare: impl FnMut(&mut Random) -> Compared,
     ) -> Compared {
         let (mut random, until) = (self.random(99), self.until);
-        let size = Size {
-            work,
-            memory: 64 * work,
-        };
-        self.case("at random", size, |_| {
+        self.case("at random", size(work, 64 * work), |_| {
             let mut inputs = 0;
             while inputs < 2_000 || Instant::now() < until {
                 compare(&mut random)?;
@@ -172,30 +181,11 @@ impl Soak {
     }
 }
 
-/// Any of the pieces, one after the other, until there are so many bytes.
-pub fn mixed(random: &mut Random, pieces: &[&[u8]], len: usize) -> Vec<u8> {
-    let mut bytes = Vec::with_capacity(len + 64);
-    while bytes.len() < len {
-        bytes.extend(random.pick(pieces));
+/// Sees that each row is as it was worked out beside.
+pub fn rows_are(rows: &[u32], width: usize, right: impl Fn(usize, &[u32]) -> bool) -> Compared {
+    let mut rows = rows.chunks_exact(width).enumerate();
+    match rows.find(|(i, row)| !right(*i, row)) {
+        None => Ok(()),
+        Some((i, row)) => Err(format!("row {i} is {row:?}").into()),
     }
-    bytes
-}
-
-/// Fills the file with one piece again and again, the last one cut.
-pub fn fill(file: &mut Vec<u8>, len: usize, piece: &[u8]) {
-    file.clear();
-    file.extend_from_slice(&piece[..piece.len().min(len)]);
-    while file.len() < len {
-        let more = file.len().min(len - file.len());
-        // Whole pieces again, since what is there is made of whole ones.
-        file.extend_from_within(..more);
-    }
-}
-
-/// A number in ten bytes.
-pub fn ten(number: u64) -> [u8; 10] {
-    std::array::from_fn(|i| match i {
-        9 => (number >> 63) as u8,
-        _ => (number >> (7 * i)) as u8 & 0x7F | 0x80,
-    })
 }

@@ -1,4 +1,7 @@
-//! Tables that are lent to a call: filled with a pattern before it, so that every word can be seen to have stayed.
+//! Tables that are lent to a call: every word can be seen to have been written or to have stayed, also those behind the
+//! lent ones.
+
+use crate::case::said;
 
 /// A word of a lent table, and what it holds before the call.
 pub trait Word: Copy + Eq + std::fmt::Debug {
@@ -18,53 +21,51 @@ impl Word for u64 {
 }
 
 /// Words behind the lent ones, which no call may touch.
-const BEHIND: usize = 4;
+const BEHIND: usize = 16;
 
-/// A table of so many words, and a few more behind its end that are not lent.
-pub struct Lent<T> {
-    words: Vec<T>,
-    len: usize,
+/// These words, then as many more as are not written where `len` are lent, and those behind.
+pub fn lent<T: Word>(mut words: Vec<T>, len: usize) -> Vec<T> {
+    assert!(words.len() <= len);
+    words.extend((words.len()..len + BEHIND).map(T::before));
+    words
 }
 
-impl<T: Word> Lent<T> {
-    pub fn new(len: usize) -> Self {
-        Lent {
-            words: (0..len + BEHIND).map(T::before).collect(),
-            len,
-        }
-    }
+/// A copy of these words to be lent, and those behind.
+pub fn copied(words: &[u32]) -> Vec<u32> {
+    let mut copy = Vec::with_capacity(words.len() + BEHIND);
+    copy.extend(words);
+    lent(copy, words.len())
+}
 
-    pub fn len(&self) -> usize {
-        self.len
-    }
+/// The first word of a table that is not as it should be, by its row.
+pub fn first_wrong<T: Word>(
+    table: &str,
+    given: &[T],
+    right: Option<&Vec<T>>,
+    row: usize,
+) -> String {
+    let wrong = right.and_then(|right| given.iter().zip(right).position(|(a, b)| a != b));
+    let (Some(i), Some(right)) = (wrong, right) else {
+        return String::new();
+    };
+    let lent = i < given.len() - BEHIND;
+    let behind = if lent { "" } else { ", behind what is lent," };
+    let (row, word) = (i / row, i % row);
+    format!("; {table} row {row} word {word}{behind} is {:?}, not {:?}", given[i], right[i])
+}
 
-    pub fn as_mut_ptr(&mut self) -> *mut T {
-        self.words.as_mut_ptr()
-    }
+/// The answer of a call that is lent one table, as it comes, and every word of the table as it is afterwards.
+#[derive(Clone, PartialEq, Eq)]
+pub struct Answer {
+    pub code: u64,
+    pub table: Vec<u32>,
+}
 
-    pub fn words(&self) -> &[T] {
-        &self.words[..self.len]
-    }
-
-    /// Whether the table now begins with `written`, and all after it is as it was before; or the first word that isn't.
-    pub fn holds(&self, written: &[T]) -> Result<(), String> {
-        let (first, rest) = self.words.split_at(written.len());
-        let wrong = if first == written {
-            let from = written.len();
-            let stayed = |(i, word): (usize, &T)| *word == T::before(from + i);
-            match rest.iter().enumerate().position(|word| !stayed(word)) {
-                None => return Ok(()),
-                Some(i) => from + i,
-            }
-        } else {
-            (0..).find(|&i| first[i] != written[i]).unwrap()
-        };
-        let right = written.get(wrong).copied().unwrap_or(T::before(wrong));
-        let behind = if wrong < self.len { "" } else { ", not lent" };
-        Err(format!(
-            "word {wrong} of the table{behind} is {:?}, not {right:?}",
-            self.words[wrong]
-        ))
+impl Answer {
+    /// In words: how many an accepted one counts, and the first wrong word.
+    pub fn words(&self, what: &str, right: Option<&Answer>, row: usize) -> String {
+        let right = right.map(|right| &right.table);
+        said(self.code, what) + &first_wrong("table", &self.table, right, row)
     }
 }
 
@@ -89,10 +90,7 @@ impl<T> Reserved<T> {
         let bytes = len * size_of::<T>();
         let at = std::ptr::null_mut();
         let begin = unsafe { mmap(at, bytes, READ, PRIVATE_ANONYMOUS_NORESERVE, -1, 0) };
-        (begin as isize != -1).then_some(Reserved {
-            begin: begin.cast(),
-            len,
-        })
+        (begin as isize != -1).then_some(Reserved { begin: begin.cast(), len })
     }
 
     pub fn len(&self) -> usize {

@@ -1,10 +1,12 @@
 //! Feeds the published Rust and libhbc_c.a the same inputs and compares all that they answer.
-//! docs/VECTORS.md says what is compared and how to run it.
+//! docs/COMPARISON.md says what is compared and how to run it.
 
 use std::process::ExitCode;
 
 #[cfg(published)]
 mod buffer;
+#[cfg(published)]
+mod case;
 #[cfg(published)]
 mod debug;
 #[cfg(published)]
@@ -13,6 +15,8 @@ mod differences;
 mod function;
 #[cfg(published)]
 mod hostile;
+#[cfg(published)]
+mod inputs;
 #[cfg(published)]
 mod io;
 #[cfg(published)]
@@ -28,58 +32,17 @@ mod run;
 #[cfg(published)]
 mod search;
 #[cfg(published)]
-mod shown;
-#[cfg(published)]
 mod table;
-#[cfg(published)]
-mod words;
 
 #[cfg(published)]
 fn main() -> ExitCode {
-    use run::Layer;
     run::main(&[
-        Layer {
-            name: "io",
-            compare: io::compare,
-            hostile: io::hostile::soak,
-            record: Some(io::record::write),
-            replay: io::replay,
-        },
-        Layer {
-            name: "table",
-            compare: table::compare,
-            hostile: table::hostile::soak,
-            record: Some(table::record::write),
-            replay: table::replay,
-        },
-        Layer {
-            name: "buffer",
-            compare: buffer::compare,
-            hostile: buffer::hostile::soak,
-            record: Some(buffer::record::write),
-            replay: buffer::replay,
-        },
-        Layer {
-            name: "function",
-            compare: function::compare,
-            hostile: function::hostile::soak,
-            record: Some(function::record::write),
-            replay: function::replay,
-        },
-        Layer {
-            name: "parsing",
-            compare: parsing::compare,
-            hostile: parsing::hostile::soak,
-            record: Some(parsing::record::write),
-            replay: parsing::replay,
-        },
-        Layer {
-            name: "debug",
-            compare: debug::compare,
-            hostile: debug::hostile::soak,
-            record: Some(debug::record::write),
-            replay: debug::replay,
-        },
+        io::LAYER,
+        function::LAYER,
+        table::LAYER,
+        buffer::LAYER,
+        parsing::LAYER,
+        debug::LAYER,
     ])
 }
 

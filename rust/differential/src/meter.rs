@@ -30,11 +30,7 @@ static METER: Mutex<Meter> = Mutex::new(Meter {
     case: String::new(),
     limit: 0.0,
     given_up: None,
-    cost: Cost {
-        calls: 0,
-        longest: 0.0,
-        grown: 0,
-    },
+    cost: Cost { calls: 0, longest: 0.0, grown: 0 },
 });
 
 /// Calls of a case whose memory is looked at: a look takes as long as many small calls.
@@ -112,9 +108,7 @@ fn bytes_of(file: &str, line: &str) -> u64 {
     let text = std::fs::read_to_string(file).expect("the system tells its memory");
     let words = text.lines().find_map(|text| text.strip_prefix(line));
     let number = words.and_then(|words| words.split_whitespace().next());
-    1024 * number
-        .and_then(|number| number.parse::<u64>().ok())
-        .expect("a number of kB")
+    1024 * number.and_then(|number| number.parse::<u64>().ok()).expect("a number of kB")
 }
 
 fn status(line: &str) -> u64 {

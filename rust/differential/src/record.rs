@@ -1,4 +1,4 @@
-//! Recorded samples, as the LAYER_vectors programs of every layer but io read them: docs/VECTORS.md has their form.
+//! Recorded samples, as `LAYER_vectors` reads them for every layer but io: docs/COMPARISON.md has their form.
 
 use harness::count;
 

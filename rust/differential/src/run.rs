@@ -6,6 +6,7 @@ use std::time::{Duration, Instant};
 
 use harness::{count, Random};
 
+use crate::case::{parsed, Compare, Compared, Difference, Words};
 use crate::hostile::Soak;
 
 const USAGE: &str = "usage: differential [--seconds N] [--seed S] [--full] [LAYER..]
@@ -15,21 +16,18 @@ const USAGE: &str = "usage: differential [--seconds N] [--seed S] [--full] [LAYE
 Compares every layer, or those named. Fixed inputs are always compared whole; random ones until N seconds have
 passed in all (default 20). --full adds inputs that need 8 GB of memory and many minutes. --hostile compares inputs
 that are made to take long instead, up to 2^30 bytes, and judges the time and memory of each call. --record writes a sample
-of the Rust's answers, as the LAYER_vectors program reads it; the layer is io if none is named. --replay compares one
+of the Rust's answers, as LAYER_vectors reads it; the layer is io if none is named. --replay compares one
 input, in the words that a difference prints.";
 
 pub struct Layer {
     pub name: &'static str,
-    pub compare: fn(&mut Run) -> Result<(), Difference>,
-    pub hostile: fn(&mut Soak) -> Result<(), Difference>,
-    /// The sample as bytes, and a line for each thing it covers; none where no program reads one.
-    pub record: Option<fn(Random) -> (Vec<u8>, Vec<String>)>,
-    /// Both answers in words, or a difference.
-    pub replay: fn(&[String]) -> Result<String, Difference>,
+    pub compare: fn(&mut Run) -> Compared,
+    pub hostile: fn(&mut Soak) -> Compared,
+    /// The sample as bytes, and a line for each thing it covers.
+    pub record: fn(Random) -> (Vec<u8>, Vec<String>),
+    /// What both sides answer, or a difference.
+    pub replay: fn(&mut Words) -> Result<String, Difference>,
 }
-
-/// The first input on which the two sides differ: its lines are printed, and the program ends.
-pub struct Difference(pub Vec<String>);
 
 pub struct Run {
     /// Whether inputs of the greatest sizes are asked for.
@@ -43,11 +41,7 @@ pub struct Run {
 
 impl Run {
     /// Compares one group, which answers by `?` at the first difference, and prints its count.
-    pub fn group(
-        &mut self,
-        name: &str,
-        compare: impl FnOnce(&mut Run) -> Result<(), Difference>,
-    ) -> Result<(), Difference> {
+    pub fn group(&mut self, name: &str, compare: impl FnOnce(&mut Run) -> Compared) -> Compared {
         self.cases = 0;
         let begin = Instant::now();
         if let Err(Difference(mut lines)) = compare(self) {
@@ -68,6 +62,13 @@ impl Run {
         );
         self.total += self.cases;
         Ok(())
+    }
+
+    /// Compares one case.
+    pub fn compare<C: Compare>(&mut self, case: &C) -> Result<C::Answer, Difference> {
+        let answer = case.compare()?;
+        self.equal();
+        Ok(answer)
     }
 
     /// One more case was compared, and did not differ.
@@ -111,8 +112,8 @@ fn asked() -> Result<Asked, String> {
     while let Some(word) = words.next() {
         let mut next = || words.next().ok_or(format!("{word} needs a word after it"));
         match word.as_str() {
-            "--seconds" => asked.seconds = number(&next()?)?,
-            "--seed" => asked.seed = number(&next()?)?,
+            "--seconds" => asked.seconds = parsed(&next()?)?,
+            "--seed" => asked.seed = parsed(&next()?)?,
             "--full" => asked.full = true,
             "--hostile" => asked.hostile = true,
             "--record" => asked.record = Some(next()?),
@@ -122,10 +123,6 @@ fn asked() -> Result<Asked, String> {
         }
     }
     Ok(asked)
-}
-
-pub fn number<T: std::str::FromStr>(word: &str) -> Result<T, String> {
-    word.parse().map_err(|_| format!("{word} is not a number"))
 }
 
 fn bad_usage(why: impl Display) -> ExitCode {
@@ -203,7 +200,7 @@ fn compare(layers: &[&Layer], asked: &Asked) -> ExitCode {
         total += run.total;
     }
     println!(
-        "{} cases compared with the published Rust and document 01, 0 differences, seed {seed}, {:.1} s",
+        "{} cases compared with the published Rust and docs/FORMAT.md, 0 differences, seed {seed}, {:.1} s",
         count(total),
         begin.elapsed().as_secs_f64()
     );
@@ -216,10 +213,7 @@ fn report(Difference(lines): Difference) -> ExitCode {
 }
 
 fn record(layer: &Layer, seed: u64, file: &str) -> ExitCode {
-    let Some(sample) = layer.record else {
-        return bad_usage(format!("no sample of {} is recorded", layer.name));
-    };
-    let (bytes, lines) = sample(Random::new(seed));
+    let (bytes, lines) = (layer.record)(Random::new(seed));
     for line in lines {
         println!("{line}");
     }
@@ -236,7 +230,7 @@ fn record(layer: &Layer, seed: u64, file: &str) -> ExitCode {
 }
 
 fn replay(layer: &Layer, words: &[String]) -> ExitCode {
-    match (layer.replay)(words) {
+    match (layer.replay)(&mut Words(words.iter())) {
         Ok(line) => {
             println!("{line}");
             ExitCode::SUCCESS

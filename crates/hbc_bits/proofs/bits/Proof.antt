@@ -1,7 +1,7 @@
 use lib.Pow.{pow-pos}
 use native.Mathlib.Omega.{arith}
 use Rattle.hbc_bits.specs.Bits.{field}
-use Rattle.hbc_bits.specs.Laws.{one-shl, field-past, field-wide}
+use Rattle.hbc_bits.proofs.Laws.{one-shl, field-past, field-wide}
 use borrow.Author.Needs.{needs}
 use Rattle.hbc_bits.proofs.bits.Statement.{statement}
 use Rattle.hbc_bits.proofs.bits.Tie as tie

@@ -5,13 +5,19 @@ use Rattle.hbc_buffer.proofs.again.Statement.{statement}
 use Rattle.hbc_buffer.proofs.again.Tie as tie
 
 mul-if4 : tie.Need-mul-if4
-mul-if4 c = omega (arith, small-product (c .before .before .before .args .size) (c .before .before .before .args .wide) (c .before .before .before .pre .0) (c .before .before .before .pre .1))
+mul-if4 c =
+    let start = c .before .before .before in
+    omega (arith, small-product (start .args .size) (start .args .wide) (start .pre .0) (start .pre .1))
 
 add-if4 : tie.Need-add-if4
-add-if4 c = omega (arith, small-product (c .before .before .before .args .size) (c .before .before .before .args .wide) (c .before .before .before .pre .0) (c .before .before .before .pre .1))
+add-if4 c =
+    let start = c .before .before .before in
+    omega (arith, small-product (start .args .size) (start .args .wide) (start .pre .0) (start .pre .1))
 
 add-if4-2 : tie.Need-add-if4-2
-add-if4-2 c = omega (arith, small-product (c .before .before .before .args .size) (c .before .before .before .args .wide) (c .before .before .before .pre .0) (c .before .before .before .pre .1), c .before .before .before .pre .2)
+add-if4-2 c =
+    let start = c .before .before .before in
+    omega (arith, small-product (start .args .size) (start .args .wide) (start .pre .0) (start .pre .1), start .pre .2)
 
 returns : tie.Need-returns
 returns c = search needs

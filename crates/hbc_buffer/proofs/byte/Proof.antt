@@ -1,8 +1,8 @@
 use Rattle.hbc_io.proofs.Plains.{plain-lt}
 use native.Mathlib.Omega.{arith}
-use Rattle.hbc_io.specs.Answers.{ofU8}
+use Rattle.hbc_io.specs.Answers.{saysU8}
 use Rattle.hbc_io.proofs.Reading.{found}
-use Rattle.hbc_buffer.specs.Fill.{byteAt}
+use Rattle.hbc_buffer.specs.Private.{byteAt}
 use borrow.Author.Needs.{needs}
 use Rattle.hbc_buffer.proofs.byte.Statement.{statement}
 use Rattle.hbc_buffer.proofs.byte.Tie as tie
@@ -22,12 +22,12 @@ enum-told c = search needs
 returns : tie.Need-returns
 unfolding byteAt
 returns c =
-    let e = found ofU8 (c .before .before .before .read-u8 .ensures) (c .before .v .given .1) in
+    let e = found saysU8 (c .before .before .before .read-u8 .ensures) (c .before .v .given .1) in
     (rw e, plain-lt 1 _ _ _ _ (λ i. c .before .before .before .before .shared-slice-known .given i .fits) e)
 
 returns-2 : tie.Need-returns-2
 unfolding byteAt
-returns-2 c = (rw (found ofU8 (c .before .before .read-u8 .ensures) (c .enum-told .given .1)), omega arith)
+returns-2 c = (rw (found saysU8 (c .before .before .read-u8 .ensures) (c .enum-told .given .1)), omega arith)
 
 pub byte-spec : {M : Type 1} → statement M
 byte-spec =

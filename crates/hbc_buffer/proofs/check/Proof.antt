@@ -1,8 +1,8 @@
-use Prim.Native.Nat.{_-_}
+use Prim.Native.Nat.{_-_, _<_}
 use mathlib.Core.Path.{refl}
 use native.Mathlib.Omega.{arith}
 use lib.ListN.{length}
-use Rattle.hbc_bits.specs.Laws.{field-lt}
+use Rattle.hbc_bits.proofs.Laws.{field-lt}
 use Rattle.hbc_buffer_literal.proofs.Laws.{width-most}
 use Rattle.hbc_buffer.proofs.Fills.{small-product}
 use Rattle.hbc_buffer.proofs.Tags.{tag-there, tag-cut}
@@ -11,11 +11,34 @@ use borrow.Author.Needs.{needs}
 use Rattle.hbc_buffer.proofs.check.Statement.{statement}
 use Rattle.hbc_buffer.proofs.check.Tie as tie
 
+-- `done` of the values are read, the run that they end in is spent, and only empty tags stand between its end and `at`; of the last run the tag byte,
+-- length and width are kept.
 abbrev Inv-loop : tie.InvT-loop
 Inv-loop s from count at₀ done₀ last₀ size₀ wide₀ at done last size wide = Passed s from count done at × Known count done last size wide
 
 abbrev μ-loop : tie.MeasureT-loop
 μ-loop s from count at₀ done₀ last₀ size₀ wide₀ at done last size wide = length s - at
+
+-- ---- the places that answers look back to
+
+-- a turn whose tag byte is read, and from there: that more values are asked, the loop's head, the call's start
+abbrev Turn : Type 0
+Turn = tie.After-byte Inv-loop μ-loop
+
+abbrev entered : Turn → tie.In-loop Inv-loop μ-loop
+entered c = c .before
+
+abbrev head : Turn → tie.At-loop Inv-loop μ-loop
+head c = c .before .before
+
+abbrev start : Turn → tie.Start Inv-loop μ-loop
+start c = c .before .before .before .before
+
+-- the turn of the third arm, from where its run is made out
+abbrev run-turn : tie.After-width-of Inv-loop μ-loop → Turn
+run-turn c = c .before .before .before .before .before .before .before .before .before
+
+-- ---- the answers
 
 loop-holds : tie.Need-loop-holds Inv-loop μ-loop
 loop-holds c = (passed-first _ _ _ (c .before .pre .1), known-first _)
@@ -24,18 +47,24 @@ byte-requires : tie.Need-byte-requires Inv-loop μ-loop
 byte-requires c κs = search needs
 
 cast-refuse : tie.Need-cast-refuse Inv-loop μ-loop
-cast-refuse c = omega (arith, c .before .before .before .loop-test .taken, c .before .before .before .before .before .before .pre .2)
+cast-refuse c =
+    let turn = c .before .before in
+    omega (arith, entered turn .loop-test .taken, start turn .pre .2)
 
 refuse-requires : tie.Need-refuse-requires Inv-loop μ-loop
 refuse-requires c κs = search needs
 
 returns : tie.Need-returns Inv-loop μ-loop
 returns c =
-    let k = tag-cut _ _ (c .before .before .before .before .before .before .before .pre .0) (c .before .before .before .byte .ensures .0) refl refl ((c .before .before .before .before .before .loop .inv .0) .within) (omega (arith, c .before .if2 .taken)) in
-    rw (c .refuse .ensures) (passed-none (c .before .before .before .before .before .loop .inv .0) (c .before .before .before .before .loop-test .taken) (k .0) (k .1))
+    let turn = c .before .before .before in
+    let inv = head turn .loop .inv in
+    let cut = tag-cut _ _ (start turn .pre .0) (turn .byte .ensures .0) refl refl (inv .0 .within) (omega (arith, c .before .if2 .taken)) in
+    rw (c .refuse .ensures) (passed-none (inv .0) (entered turn .loop-test .taken) (cut .0) (cut .1))
 
 add-at : tie.Need-add-at Inv-loop μ-loop
-add-at c = omega (arith, (c .before .before .before .before .loop .inv .0) .within, c .before .before .before .before .before .before .pre .0)
+add-at c =
+    let turn = c .before .before in
+    omega (arith, head turn .loop .inv .0 .within, start turn .pre .0)
 
 bits-requires : tie.Need-bits-requires Inv-loop μ-loop
 bits-requires c κs = search needs
@@ -53,57 +82,90 @@ loop-less : tie.Need-loop-less Inv-loop μ-loop
 loop-less c = omega (arith, c .before .before .if2 .left)
 
 loop-again : tie.Need-loop-again Inv-loop μ-loop
-loop-again c = (none-more (c .before .before .before .before .before .before .loop .inv .0) (c .before .before .before .before .before .loop-test .taken) (c .before .before .before .before .before .before .before .before .pre .0) (c .before .before .before .before .byte .ensures .0) (c .before .before .before .if1 .taken) (omega (arith, c .before .before .if2 .left)) (c .before .bits .ensures) (c .least .ensures), known-on _ (c .before .before .before .before .before .before .loop .inv .1) (c .before .before .before .before .before .loop-test .taken))
+loop-again c =
+    let turn = c .before .before .before .before in
+    let inv = head turn .loop .inv in
+    let some = entered turn .loop-test .taken in
+    let low = c .before .before .before .if1 .taken in
+    let here = c .before .before .if2 .left in (
+      none-more (inv .0) some (start turn .pre .0) (turn .byte .ensures .0) low (omega (arith, here)) (c .before .bits .ensures) (c .least .ensures),
+      known-on _ (inv .1) some,
+    )
 
 sub-again : tie.Need-sub-again Inv-loop μ-loop
 sub-again c = search needs
 
 sub-again-2 : tie.Need-sub-again-2 Inv-loop μ-loop
-sub-again-2 c = (c .before .before .before .loop .inv .0) .within
+sub-again-2 c = head (c .before) .loop .inv .0 .within
 
 again-requires : tie.Need-again-requires Inv-loop μ-loop
-again-requires c κs = (c .before .before .before .loop .inv .1 .small, c .before .before .before .loop .inv .1 .narrow, omega arith)
+again-requires c κs = let known = head (c .before) .loop .inv .1 in (known .small, known .narrow, omega arith)
 
 mul-at : tie.Need-mul-at Inv-loop μ-loop
-mul-at c = omega (arith, small-product (c .before .before .before .before .before .loop .size) (c .before .before .before .before .before .loop .wide) (c .before .before .before .before .before .loop .inv .1 .small) (c .before .before .before .before .before .loop .inv .1 .narrow))
+mul-at c =
+    let loop = head (c .before .before .before) .loop in
+    omega (arith, small-product (loop .size) (loop .wide) (loop .inv .1 .small) (loop .inv .1 .narrow))
 
 add-at-2 : tie.Need-add-at-2 Inv-loop μ-loop
-add-at-2 c = omega (arith, small-product (c .before .before .before .before .before .loop .size) (c .before .before .before .before .before .loop .wide) (c .before .before .before .before .before .loop .inv .1 .small) (c .before .before .before .before .before .loop .inv .1 .narrow))
+add-at-2 c =
+    let loop = head (c .before .before .before) .loop in
+    omega (arith, small-product (loop .size) (loop .wide) (loop .inv .1 .small) (loop .inv .1 .narrow))
 
 add-at-3 : tie.Need-add-at-3 Inv-loop μ-loop
-add-at-3 c = omega (arith, (c .before .again .ensures (c .if3 .taken)) .3, (c .before .before .before .before .before .loop .inv .0) .within, c .before .before .before .before .before .before .before .pre .0)
+add-at-3 c =
+    let turn = c .before .before .before in
+    let again = c .before .again .ensures (c .if3 .taken) in
+    omega (arith, again .3, head turn .loop .inv .0 .within, start turn .pre .0)
 
 add-done-2 : tie.Need-add-done-2 Inv-loop μ-loop
-add-done-2 c = omega (arith, (c .before .again .ensures (c .if3 .taken)) .2, c .before .before .before .before .before .before .before .pre .2)
+add-done-2 c =
+    let again = c .before .again .ensures (c .if3 .taken) in
+    omega (arith, again .2, start (c .before .before .before) .pre .2)
 
 loop-less-2 : tie.Need-loop-less-2 Inv-loop μ-loop
 loop-less-2 c = omega (arith, (c .before .again .ensures (c .if3 .taken)) .3)
 
 loop-again-2 : tie.Need-loop-again-2 Inv-loop μ-loop
-loop-again-2 c = (again-more (c .before .before .before .before .before .loop .inv .0) (c .before .before .before .before .loop-test .taken) (c .before .before .before .before .before .before .before .pre .0) (c .before .before .before .before .before .loop .inv .1) (c .before .before .before .byte .ensures .0) 0 (c .before .again .ensures (c .if3 .taken)), known-on _ (c .before .before .before .before .before .loop .inv .1) (c .before .before .before .before .loop-test .taken))
+loop-again-2 c =
+    let turn = c .before .before .before in
+    let inv = head turn .loop .inv in
+    let some = entered turn .loop-test .taken in
+    (again-more (inv .0) some (start turn .pre .0) (inv .1) (turn .byte .ensures .0) 0 (c .before .again .ensures (c .if3 .taken)), known-on _ (inv .1) some)
 
 add-first : tie.Need-add-first Inv-loop μ-loop
-add-first c = omega (arith, (c .before .before .before .before .before .loop .inv .0) .within, c .before .before .before .before .before .before .before .pre .0)
+add-first c =
+    let turn = c .before .before .before in
+    omega (arith, head turn .loop .inv .0 .within, start turn .pre .0)
 
 bits-requires-2 : tie.Need-bits-requires-2 Inv-loop μ-loop
 bits-requires-2 c κs = search needs
 
 add-first-2 : tie.Need-add-first-2 Inv-loop μ-loop
-add-first-2 c = omega (arith, (c .before .before .before .before .before .before .loop .inv .0) .within, c .before .before .before .before .before .before .before .before .pre .0, c .bits2 .ensures, field-lt 1 7 1 (c .before .before .before .before .byte .result) (omega arith))
+add-first-2 c =
+    let turn = c .before .before .before .before in
+    let high = field-lt 1 7 1 (turn .byte .result) (omega arith) in
+    omega (arith, head turn .loop .inv .0 .within, start turn .pre .0, c .bits2 .ensures, high)
 
 cast-refuse-2 : tie.Need-cast-refuse-2 Inv-loop μ-loop
-cast-refuse-2 c = omega (arith, c .before .before .before .before .before .before .loop-test .taken, c .before .before .before .before .before .before .before .before .before .pre .2)
+cast-refuse-2 c =
+    let turn = c .before .before .before .before .before in
+    omega (arith, entered turn .loop-test .taken, start turn .pre .2)
 
 refuse-requires-2 : tie.Need-refuse-requires-2 Inv-loop μ-loop
 refuse-requires-2 c κs = search needs
 
 returns-2 : tie.Need-returns-2 Inv-loop μ-loop
 returns-2 c =
-    let k = tag-cut _ _ (c .before .before .before .before .before .before .before .before .before .before .pre .0) (c .before .before .before .before .before .before .byte .ensures .0) refl (c .before .before .bits2 .ensures) ((c .before .before .before .before .before .before .before .before .loop .inv .0) .within) (c .before .if4 .taken) in
-    rw (c .refuse2 .ensures) (passed-none (c .before .before .before .before .before .before .before .before .loop .inv .0) (c .before .before .before .before .before .before .before .loop-test .taken) (k .0) (k .1))
+    let turn = c .before .before .before .before .before .before in
+    let inv = head turn .loop .inv in
+    let high = c .before .before .bits2 .ensures in
+    let cut = tag-cut _ _ (start turn .pre .0) (turn .byte .ensures .0) refl high (inv .0 .within) (c .before .if4 .taken) in
+    rw (c .refuse2 .ensures) (passed-none (inv .0) (entered turn .loop-test .taken) (cut .0) (cut .1))
 
 add-byte : tie.Need-add-byte Inv-loop μ-loop
-add-byte c = omega (arith, (c .before .before .before .before .before .before .before .loop .inv .0) .within, c .before .before .before .before .before .before .before .before .before .pre .0)
+add-byte c =
+    let turn = c .before .before .before .before .before in
+    omega (arith, head turn .loop .inv .0 .within, start turn .pre .0)
 
 byte-requires-2 : tie.Need-byte-requires-2 Inv-loop μ-loop
 byte-requires-2 c κs = search needs
@@ -124,28 +186,51 @@ sub-room : tie.Need-sub-room Inv-loop μ-loop
 sub-room c = c .before .before .before .before .if4 .left
 
 mul-if5 : tie.Need-mul-if5 Inv-loop μ-loop
-mul-if5 c = omega (arith, small-product (c .before .least2 .result) (c .width-of .result) (omega (arith, c .before .least2 .ensures, c .before .before .before .before .before .before .before .before .before .before .before .before .before .pre .2)) (rw (c .width-of .ensures) (width-most _)))
+mul-if5 c =
+    let few = c .before .least2 in
+    let most : few .result < 4294967296 = omega (arith, few .ensures, start (run-turn c) .pre .2) in
+    omega (arith, small-product (few .result) (c .width-of .result) most (rw (c .width-of .ensures) (width-most _)))
 
 div-refuse : tie.Need-div-refuse Inv-loop μ-loop
 div-refuse c = positive (c .before .before .least2 .result) _ _ (c .if5 .taken)
 
 add-refuse : tie.Need-add-refuse Inv-loop μ-loop
-add-refuse c = omega (arith, quotient (c .before .before .least2 .result) _ _ (c .if5 .taken), c .before .before .least2 .ensures)
+add-refuse c =
+    let few = c .before .before .least2 in
+    omega (arith, quotient (few .result) _ _ (c .if5 .taken), few .ensures)
 
 cast-refuse-3 : tie.Need-cast-refuse-3 Inv-loop μ-loop
-cast-refuse-3 c = omega (arith, quotient (c .before .before .least2 .result) _ _ (c .if5 .taken), c .before .before .least2 .ensures, c .before .before .before .before .before .before .before .before .before .before .before .before .before .before .pre .2)
+cast-refuse-3 c =
+    let few = c .before .before .least2 in
+    omega (arith, quotient (few .result) _ _ (c .if5 .taken), few .ensures, start (run-turn (c .before)) .pre .2)
 
 refuse-requires-3 : tie.Need-refuse-requires-3 Inv-loop μ-loop
 refuse-requires-3 c κs = search needs
 
 returns-3 : tie.Need-returns-3 Inv-loop μ-loop
-returns-3 c = rw (c .refuse3 .ensures, c .before .before .width-of .ensures) (passed-cut (c .before .before .before .before .before .before .before .before .before .before .before .before .before .loop .inv .0) (c .before .before .before .before .before .before .before .before .before .before .before .before .loop-test .taken) (c .before .before .before .before .before .before .before .before .before .before .before .before .before .before .before .pre .0) (tag-there _ _ (c .before .before .before .before .before .before .before .before .before .before .before .before .before .before .before .pre .0) (c .before .before .before .before .before .before .before .before .before .before .before .byte .ensures .0) refl (c .before .before .before .before .before .before .before .bits2 .ensures) (c .before .before .before .before .before .byte2 .ensures .0) (c .before .before .before .before .length-of .ensures) (c .before .before .before .before .before .before .if4 .left)) _ (c .before .before .before .least2 .ensures) (rw (← c .before .before .width-of .ensures) (c .before .if5 .taken)))
+returns-3 c =
+    let run = c .before .before in
+    let turn = run-turn run in
+    let inv = head turn .loop .inv in
+    let pre = start turn .pre in
+    let some = entered turn .loop-test .taken in
+    let high = run .before .before .before .before .before .bits2 .ensures in
+    let second = run .before .before .before .byte2 .ensures .0 in
+    let len = run .before .before .length-of .ensures in
+    let there = tag-there _ _ (pre .0) (turn .byte .ensures .0) refl high second len (run .before .before .before .before .if4 .left) in
+    let few = run .before .least2 .ensures in
+    let wide = run .width-of .ensures in
+    rw (c .refuse3 .ensures, wide) (passed-cut (inv .0) some (pre .0) there _ few (rw (← wide) (c .before .if5 .taken)))
 
 mul-at-2 : tie.Need-mul-at-2 Inv-loop μ-loop
-mul-at-2 c = omega (arith, small-product (c .before .before .least2 .result) (c .before .width-of .result) (omega (arith, c .before .before .least2 .ensures, c .before .before .before .before .before .before .before .before .before .before .before .before .before .before .pre .2)) (rw (c .before .width-of .ensures) (width-most _)))
+mul-at-2 c =
+    let run = c .before in
+    let few = run .before .least2 in
+    let most : few .result < 4294967296 = omega (arith, few .ensures, start (run-turn run) .pre .2) in
+    omega (arith, small-product (few .result) (run .width-of .result) most (rw (run .width-of .ensures) (width-most _)))
 
 add-at-4 : tie.Need-add-at-4 Inv-loop μ-loop
-add-at-4 c = omega (arith, c .if5 .left, c .before .before .before .before .before .if4 .left, c .before .before .before .before .before .before .before .before .before .before .before .before .before .before .pre .0)
+add-at-4 c = omega (arith, c .if5 .left, c .before .before .before .before .before .if4 .left, start (run-turn (c .before)) .pre .0)
 
 add-done-3 : tie.Need-add-done-3 Inv-loop μ-loop
 add-done-3 c = omega (arith, c .before .before .least2 .ensures)
@@ -154,7 +239,19 @@ loop-less-3 : tie.Need-loop-less-3 Inv-loop μ-loop
 loop-less-3 c = omega (arith, c .if5 .left, c .before .before .before .before .before .if4 .left)
 
 loop-again-3 : tie.Need-loop-again-3 Inv-loop μ-loop
-loop-again-3 c = (rw (c .before .width-of .ensures) (passed-more (c .before .before .before .before .before .before .before .before .before .before .before .before .loop .inv .0) (c .before .before .before .before .before .before .before .before .before .before .before .loop-test .taken) (c .before .before .before .before .before .before .before .before .before .before .before .before .before .before .pre .0) (tag-there _ _ (c .before .before .before .before .before .before .before .before .before .before .before .before .before .before .pre .0) (c .before .before .before .before .before .before .before .before .before .before .byte .ensures .0) refl (c .before .before .before .before .before .before .bits2 .ensures) (c .before .before .before .before .byte2 .ensures .0) (c .before .before .before .length-of .ensures) (c .before .before .before .before .before .if4 .left)) _ (c .before .before .least2 .ensures) (rw (← c .before .width-of .ensures) (c .if5 .left))), known-next _ _ (c .before .before .before .before .before .before .before .before .before .before .before .loop-test .taken) (c .before .before .before .before .before .before .before .before .before .before .before .before .before .before .pre .2) (c .before .before .before .length-of .ensures) (c .before .before .least2 .ensures) (c .before .width-of .ensures))
+loop-again-3 c =
+    let run = c .before in
+    let turn = run-turn run in
+    let inv = head turn .loop .inv in
+    let pre = start turn .pre in
+    let some = entered turn .loop-test .taken in
+    let high = run .before .before .before .before .before .bits2 .ensures in
+    let second = run .before .before .before .byte2 .ensures .0 in
+    let len = run .before .before .length-of .ensures in
+    let there = tag-there _ _ (pre .0) (turn .byte .ensures .0) refl high second len (run .before .before .before .before .if4 .left) in
+    let few = run .before .least2 .ensures in
+    let wide = run .width-of .ensures in
+    (rw wide (passed-more (inv .0) some (pre .0) there _ few (rw (← wide) (c .if5 .left))), known-next _ _ some (pre .2) len few wide)
 
 sub-t40 : tie.Need-sub-t40 Inv-loop μ-loop
 sub-t40 c = c .before .loop .inv .0 .up

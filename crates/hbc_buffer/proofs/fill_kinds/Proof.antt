@@ -2,14 +2,15 @@ use Prim.Native.Nat.{_-_, _≤_}
 use mathlib.Core.Path.{_≡_, refl, ap, _∙_}
 use native.Mathlib.Omega.{arith}
 use lib.ListN.{length}
-use Rattle.hbc_buffer.specs.Fill.{filledFrom}
+use Rattle.hbc_buffer.specs.Private.{filledFrom, kindsFrom}
 use Rattle.hbc_buffer.proofs.Fills.{from-more, from-length}
 use borrow.Author.Needs.{needs}
 use Rattle.hbc_buffer.proofs.fill_kinds.Statement.{statement}
 use Rattle.hbc_buffer.proofs.fill_kinds.Tie as tie
 
+-- i entries from `first` on are k; the others are as they were.
 abbrev Inv-loop : tie.InvT-loop
-Inv-loop table₀ first n k i₀ table i = (i ≤ n) × (table ≡ filledFrom first i (λ _. k) table₀)
+Inv-loop table₀ first n k i₀ table i = (i ≤ n) × (table ≡ kindsFrom k first i table₀)
 
 abbrev μ-loop : tie.MeasureT-loop
 μ-loop table₀ first n k i₀ table i = n - i

@@ -2,14 +2,15 @@ use Prim.Native.Nat.{_-_, _≤_}
 use mathlib.Core.Path.{_≡_, refl, ap, _∙_}
 use native.Mathlib.Omega.{arith}
 use lib.ListN.{length}
-use Rattle.hbc_buffer.specs.Fill.{filledFrom}
+use Rattle.hbc_buffer.specs.Private.{filledFrom, kindsFrom}
 use Rattle.hbc_buffer.proofs.Fills.{from-more, from-length}
 use borrow.Author.Needs.{needs}
 use Rattle.hbc_buffer.proofs.fill_none.Statement.{statement}
 use Rattle.hbc_buffer.proofs.fill_none.Tie as tie
 
+-- i entries from `first` on are k and 0; the others are as they were.
 abbrev Inv-loop : tie.InvT-loop
-Inv-loop kinds₀ payloads₀ k first n i₀ kinds payloads i = (i ≤ n) × (kinds ≡ filledFrom first i (λ _. k) kinds₀) × (payloads ≡ filledFrom first i (λ _. 0) payloads₀)
+Inv-loop kinds₀ payloads₀ k first n i₀ kinds payloads i = (i ≤ n) × (kinds ≡ kindsFrom k first i kinds₀) × (payloads ≡ filledFrom first i (λ _. 0) payloads₀)
 
 abbrev μ-loop : tie.MeasureT-loop
 μ-loop kinds₀ payloads₀ k first n i₀ kinds payloads i = n - i

@@ -1,8 +1,8 @@
 use mathlib.Core.Path.{sym, _∙_}
 use native.Mathlib.Omega.{arith}
 use borrow.Author.Tests.{eq-eqb, ne-eqb}
-use Rattle.hbc_bits.specs.Laws.{field-lt}
-use Rattle.hbc_buffer.specs.Fill.{lengthOf}
+use Rattle.hbc_bits.proofs.Laws.{field-lt}
+use Rattle.hbc_buffer.specs.Private.{lengthOf}
 use borrow.Author.Needs.{needs}
 use Rattle.hbc_buffer.proofs.length_of.Statement.{statement}
 use Rattle.hbc_buffer.proofs.length_of.Tie as tie

@@ -1,5 +1,5 @@
 use native.Mathlib.Omega.{arith}
-use Rattle.hbc_bits.specs.Laws.{field-lt}
+use Rattle.hbc_bits.proofs.Laws.{field-lt}
 use Rattle.hbc_buffer.proofs.Tags.{width-nibble}
 use borrow.Author.Needs.{needs}
 use Rattle.hbc_buffer.proofs.width_of.Statement.{statement}

@@ -1,25 +1,62 @@
-use Prim.Native.Nat.{_-_}
+use Prim.Native.Nat.{_-_, _<_}
 use mathlib.Core.Path.{_≡_, refl, sym, ap, _∙_}
 use native.Mathlib.Omega.{arith}
 use lib.ListN.{length}
-use Rattle.hbc_bits.specs.Laws.{field-lt}
+use Rattle.hbc_bits.proofs.Laws.{field-lt}
 use Rattle.hbc_io.specs.Outcome.{cursorAt}
+use Rattle.hbc_rows.specs.Rows.{filled}
+use Rattle.hbc_rows.proofs.Laws.{filled-length}
 use Rattle.hbc_buffer_literal.specs.Literal.{widthOf}
 use Rattle.hbc_buffer_literal.proofs.Laws.{width-most}
-use Rattle.hbc_buffer.specs.Series.{kindAt, payloadAt, filled}
-use Rattle.hbc_buffer.proofs.Tags.{tag-there}
-use Rattle.hbc_buffer.proofs.Fills.{filled-length, small-product}
-use Rattle.hbc_buffer.proofs.Passes.{Passed, passed-first, passed-more, whole-tag, whole-room, within-tag, kinds-more, payloads-more, turn-within, turn-on, Known, known-first, known-next, known-on, again-more, again-kinds, again-payloads, none-more, none-kinds, none-payloads}
+use Rattle.hbc_buffer.specs.Series.{kindAt, payloadAt}
+use Rattle.hbc_buffer.proofs.Fills.{filled-room, small-product}
+use Rattle.hbc_buffer.proofs.Passes.{Passed, passed-first, passed-more, whole-tag, whole-there, whole-room, within-tag, kinds-more, payloads-more, turn-within, turn-on, Known, known-first, known-next, known-on, again-more, again-kinds, again-payloads, none-more, none-kinds, none-payloads}
 use borrow.Author.Needs.{needs}
 use Rattle.hbc_buffer.proofs.write.Statement.{statement}
 use Rattle.hbc_buffer.proofs.write.Tie as tie
 
+-- `done` of the values are read and the run that they end in is spent; of the last run the tag byte, length and width are kept; the first `done` entries
+-- of both tables are the series'.
 abbrev Inv-loop : tie.InvT-loop
 Inv-loop s from count kinds₀ payloads₀ at₀ done₀ last₀ size₀ wide₀ kinds payloads at done last size wide =
-    Passed s from count done at × Known count done last size wide × (kinds ≡ filled done (kindAt s (cursorAt from)) kinds₀) × (payloads ≡ filled done (payloadAt s (cursorAt from)) payloads₀)
+    Passed s from count done at × Known count done last size wide
+    × (kinds ≡ filled (kindAt s (cursorAt from)) done kinds₀) × (payloads ≡ filled (payloadAt s (cursorAt from)) done payloads₀)
 
 abbrev μ-loop : tie.MeasureT-loop
 μ-loop s from count kinds₀ payloads₀ at₀ done₀ last₀ size₀ wide₀ kinds payloads at done last size wide = length s - at
+
+-- ---- the places that answers look back to
+
+-- a turn whose tag byte is read, and from there: that more values are asked, the loop's head, the call's start
+abbrev Turn : Type 0
+Turn = tie.After-bits Inv-loop μ-loop
+
+abbrev entered : Turn → tie.In-loop Inv-loop μ-loop
+entered c = c .before .before
+
+abbrev head : Turn → tie.At-loop Inv-loop μ-loop
+head c = c .before .before .before
+
+abbrev start : Turn → tie.Start Inv-loop μ-loop
+start c = c .before .before .before .before .before .before .before
+
+-- the turn of each arm, from the arm's end, and of the third from where its run is made out
+abbrev none-turn : tie.After-slice-known4 Inv-loop μ-loop → Turn
+none-turn c = c .before .before .before .before .before .before .before .before .before .before .before
+
+abbrev again-arm : tie.After-slice-known6 Inv-loop μ-loop → tie.Then2 Inv-loop μ-loop
+again-arm c = c .before .before .before .before .before .before .before .before
+
+abbrev again-turn : tie.Then2 Inv-loop μ-loop → Turn
+again-turn c = c .before .before .before
+
+abbrev run-turn : tie.After-width-of Inv-loop μ-loop → Turn
+run-turn c = c .before .before .before .before .before .before .before .before
+
+abbrev made-out : tie.After-slice-known8 Inv-loop μ-loop → tie.After-width-of Inv-loop μ-loop
+made-out c = c .before .before .before .before .before .before .before
+
+-- ---- the answers
 
 loop-holds : tie.Need-loop-holds Inv-loop μ-loop
 unfolding filled
@@ -44,78 +81,141 @@ kind-requires : tie.Need-kind-requires Inv-loop μ-loop
 kind-requires c κs = search needs
 
 fill-none-requires : tie.Need-fill-none-requires Inv-loop μ-loop
-fill-none-requires c κs = (omega (arith, c .before .before .before .least .ensures, (c .before .before .before .before .before .before .before .before .loop-test .taken), c .before .before .before .before .before .before .before .before .before .before .before .before .before .pre .3, ap length (c .before .before .before .before .before .before .before .before .before .loop .inv .2) ∙ filled-length _ _ _), omega (arith, c .before .before .before .least .ensures, (c .before .before .before .before .before .before .before .before .loop-test .taken), c .before .before .before .before .before .before .before .before .before .before .before .before .before .pre .4, ap length (c .before .before .before .before .before .before .before .before .before .loop .inv .3) ∙ filled-length _ _ _))
+fill-none-requires c κs =
+    let turn = c .before .before .before .before .before .before in
+    let loop = head turn .loop in
+    let pre = start turn .pre in
+    let few = c .before .before .before .least .ensures in
+    let some = entered turn .loop-test .taken in
+    (filled-room _ _ _ (loop .inv .2) (pre .3) (omega (arith, few, some)), filled-room _ _ _ (loop .inv .3) (pre .4) (omega (arith, few, some)))
 
 add-at : tie.Need-add-at Inv-loop μ-loop
-add-at c = omega (arith, (c .before .before .before .before .before .before .before .before .before .before .before .before .before .before .loop .inv .0) .within, c .before .before .before .before .before .before .before .before .before .before .before .before .before .before .before .before .before .before .pre .0)
+add-at c =
+    let turn = none-turn c in
+    omega (arith, head turn .loop .inv .0 .within, start turn .pre .0)
 
 add-done : tie.Need-add-done Inv-loop μ-loop
 add-done c = omega (arith, c .before .before .before .before .before .before .before .before .least .ensures)
 
 loop-less : tie.Need-loop-less Inv-loop μ-loop
-loop-less c = omega (arith, whole-tag (c .before .before .before .before .before .before .before .before .before .before .before .before .before .before .loop .inv .0) (c .before .before .before .before .before .before .before .before .before .before .before .before .before .loop-test .taken) (c .before .before .before .before .before .before .before .before .before .before .before .before .before .before .before .before .before .before .pre .0) (c .before .before .before .before .before .before .before .before .before .before .before .before .byte .ensures .0) refl (c .before .before .before .before .before .before .before .before .before .before .before .before .before .before .before .before .before .before .pre .5))
+loop-less c =
+    let turn = none-turn c in
+    let pre = start turn .pre in
+    omega (arith, whole-tag (head turn .loop .inv .0) (entered turn .loop-test .taken) (pre .0) (turn .before .byte .ensures .0) refl (pre .5))
 
 loop-again : tie.Need-loop-again Inv-loop μ-loop
 loop-again c =
-    let i = within-tag _ _ (whole-tag (c .before .before .before .before .before .before .before .before .before .before .before .before .before .before .loop .inv .0) (c .before .before .before .before .before .before .before .before .before .before .before .before .before .loop-test .taken) (c .before .before .before .before .before .before .before .before .before .before .before .before .before .before .before .before .before .before .pre .0) (c .before .before .before .before .before .before .before .before .before .before .before .before .byte .ensures .0) refl (c .before .before .before .before .before .before .before .before .before .before .before .before .before .before .before .before .before .before .pre .5)) in (
-      none-more (c .before .before .before .before .before .before .before .before .before .before .before .before .before .before .loop .inv .0) (c .before .before .before .before .before .before .before .before .before .before .before .before .before .loop-test .taken) (c .before .before .before .before .before .before .before .before .before .before .before .before .before .before .before .before .before .before .pre .0) (c .before .before .before .before .before .before .before .before .before .before .before .before .byte .ensures .0) (c .before .before .before .before .before .before .before .before .before .before .if1 .taken) i (c .before .before .before .before .before .before .before .before .before .bits2 .ensures) (c .before .before .before .before .before .before .before .before .least .ensures),
-      known-on _ (c .before .before .before .before .before .before .before .before .before .before .before .before .before .before .loop .inv .1) (c .before .before .before .before .before .before .before .before .before .before .before .before .before .loop-test .taken),
-      c .before .before .before .before .fill-none .ensures .0 ∙ none-kinds (c .before .before .before .before .before .before .before .before .before .before .before .before .before .before .loop .inv .0) (c .before .before .before .before .before .before .before .before .before .before .before .before .before .loop-test .taken) (c .before .before .before .before .before .before .before .before .before .before .before .before .before .before .before .before .before .before .pre .0) (c .before .before .before .before .before .before .before .before .before .before .before .before .byte .ensures .0) (c .before .before .before .before .before .before .before .before .before .before .if1 .taken) i (c .before .before .before .before .before .before .before .before .before .bits2 .ensures) (c .before .before .before .before .before .before .before .before .least .ensures) _ (c .before .before .before .before .before .before .before .before .before .before .before .bits .ensures) (c .before .before .before .before .before .kind .ensures) (c .before .before .before .before .before .before .before .before .before .before .before .before .before .before .loop .inv .2),
-      c .before .before .before .before .fill-none .ensures .1 ∙ none-payloads (c .before .before .before .before .before .before .before .before .before .before .before .before .before .before .loop .inv .0) (c .before .before .before .before .before .before .before .before .before .before .before .before .before .loop-test .taken) (c .before .before .before .before .before .before .before .before .before .before .before .before .before .before .before .before .before .before .pre .0) (c .before .before .before .before .before .before .before .before .before .before .before .before .byte .ensures .0) (c .before .before .before .before .before .before .before .before .before .before .if1 .taken) i (c .before .before .before .before .before .before .before .before .before .bits2 .ensures) (c .before .before .before .before .before .before .before .before .least .ensures) _ (c .before .before .before .before .before .before .before .before .before .before .before .before .before .before .loop .inv .3),
+    let turn = none-turn c in
+    let inv = head turn .loop .inv in
+    let pre = start turn .pre in
+    let some = entered turn .loop-test .taken in
+    let byte = turn .before .byte .ensures .0 in
+    let low = c .before .before .before .before .before .before .before .before .before .before .if1 .taken in
+    let len = c .before .before .before .before .before .before .before .before .before .bits2 .ensures in
+    let few = c .before .before .before .before .before .before .before .before .least .ensures in
+    let filled = c .before .before .before .before .fill-none .ensures in
+    let here = within-tag _ _ (whole-tag (inv .0) some (pre .0) byte refl (pre .5)) in (
+      none-more (inv .0) some (pre .0) byte low here len few,
+      known-on _ (inv .1) some,
+      filled .0 ∙ none-kinds (inv .0) some (pre .0) byte low here len few _ (turn .bits .ensures) (c .before .before .before .before .before .kind .ensures) (inv .2),
+      filled .1 ∙ none-payloads (inv .0) some (pre .0) byte low here len few _ (inv .3),
     )
 
 sub-again : tie.Need-sub-again Inv-loop μ-loop
 sub-again c = search needs
 
 sub-again-2 : tie.Need-sub-again-2 Inv-loop μ-loop
-sub-again-2 c = (c .before .before .before .before .loop .inv .0) .within
+sub-again-2 c = head (c .before) .loop .inv .0 .within
 
 again-requires : tie.Need-again-requires Inv-loop μ-loop
-again-requires c κs = (c .before .before .before .before .loop .inv .1 .small, c .before .before .before .before .loop .inv .1 .narrow, omega arith)
+again-requires c κs = let known = head (c .before) .loop .inv .1 in (known .small, known .narrow, omega arith)
 
 add-fill-short : tie.Need-add-fill-short Inv-loop μ-loop
-add-fill-short c = omega (arith, (c .before .before .before .before .before .before .loop .inv .0) .within, c .before .before .before .before .before .before .before .before .before .before .pre .0)
+add-fill-short c =
+    let turn = again-turn c in
+    omega (arith, head turn .loop .inv .0 .within, start turn .pre .0)
 
 kind-requires-2 : tie.Need-kind-requires-2 Inv-loop μ-loop
 kind-requires-2 c κs = search needs
 
 fill-short-requires : tie.Need-fill-short-requires Inv-loop μ-loop
-fill-short-requires c κs = (c .before .before .before .before .before .before .before .before .before .before .before .before .before .pre .0, omega (arith, (c .before .before .before .before .again .ensures (c .before .before .before .if2 .taken)) .3, (c .before .before .before .before .before .before .before .before .before .loop .inv .0) .within), c .before .before .before .before .before .before .before .before .before .loop .inv .1 .narrow, omega (arith, (c .before .before .before .before .again .ensures (c .before .before .before .if2 .taken)) .2, (c .before .before .before .before .before .before .before .before .loop-test .taken), c .before .before .before .before .before .before .before .before .before .before .before .before .before .pre .3, ap length (c .before .before .before .before .before .before .before .before .before .loop .inv .2) ∙ filled-length _ _ _), omega (arith, (c .before .before .before .before .again .ensures (c .before .before .before .if2 .taken)) .2, (c .before .before .before .before .before .before .before .before .loop-test .taken), c .before .before .before .before .before .before .before .before .before .before .before .before .before .pre .4, ap length (c .before .before .before .before .before .before .before .before .before .loop .inv .3) ∙ filled-length _ _ _))
+fill-short-requires c κs =
+    let arm = c .before .before .before in
+    let turn = again-turn arm in
+    let inv = head turn .loop .inv in
+    let pre = start turn .pre in
+    let some = entered turn .loop-test .taken in
+    let again = arm .before .again .ensures (arm .if2 .taken) in (
+      pre .0,
+      omega (arith, again .3, inv .0 .within),
+      inv .1 .narrow,
+      filled-room _ _ _ (inv .2) (pre .3) (omega (arith, again .2, some)),
+      filled-room _ _ _ (inv .3) (pre .4) (omega (arith, again .2, some)),
+    )
 
 mul-at : tie.Need-mul-at Inv-loop μ-loop
-mul-at c = omega (arith, small-product (c .before .before .before .before .before .before .before .before .before .before .before .before .before .before .loop .size) (c .before .before .before .before .before .before .before .before .before .before .before .before .before .before .loop .wide) (c .before .before .before .before .before .before .before .before .before .before .before .before .before .before .loop .inv .1 .small) (c .before .before .before .before .before .before .before .before .before .before .before .before .before .before .loop .inv .1 .narrow))
+mul-at c =
+    let loop = head (again-turn (again-arm c)) .loop in
+    omega (arith, small-product (loop .size) (loop .wide) (loop .inv .1 .small) (loop .inv .1 .narrow))
 
 add-at-2 : tie.Need-add-at-2 Inv-loop μ-loop
-add-at-2 c = omega (arith, small-product (c .before .before .before .before .before .before .before .before .before .before .before .before .before .before .loop .size) (c .before .before .before .before .before .before .before .before .before .before .before .before .before .before .loop .wide) (c .before .before .before .before .before .before .before .before .before .before .before .before .before .before .loop .inv .1 .small) (c .before .before .before .before .before .before .before .before .before .before .before .before .before .before .loop .inv .1 .narrow))
+add-at-2 c =
+    let loop = head (again-turn (again-arm c)) .loop in
+    omega (arith, small-product (loop .size) (loop .wide) (loop .inv .1 .small) (loop .inv .1 .narrow))
 
 add-at-3 : tie.Need-add-at-3 Inv-loop μ-loop
-add-at-3 c = omega (arith, (c .before .before .before .before .before .before .before .before .before .again .ensures (c .before .before .before .before .before .before .before .before .if2 .taken)) .3, (c .before .before .before .before .before .before .before .before .before .before .before .before .before .before .loop .inv .0) .within, c .before .before .before .before .before .before .before .before .before .before .before .before .before .before .before .before .before .before .pre .0)
+add-at-3 c =
+    let arm = again-arm c in
+    let turn = again-turn arm in
+    let again = arm .before .again .ensures (arm .if2 .taken) in
+    omega (arith, again .3, head turn .loop .inv .0 .within, start turn .pre .0)
 
 add-done-2 : tie.Need-add-done-2 Inv-loop μ-loop
-add-done-2 c = omega (arith, (c .before .before .before .before .before .before .before .before .before .again .ensures (c .before .before .before .before .before .before .before .before .if2 .taken)) .2, c .before .before .before .before .before .before .before .before .before .before .before .before .before .before .before .before .before .before .pre .2)
+add-done-2 c =
+    let arm = again-arm c in
+    let again = arm .before .again .ensures (arm .if2 .taken) in
+    omega (arith, again .2, start (again-turn arm) .pre .2)
 
 loop-less-2 : tie.Need-loop-less-2 Inv-loop μ-loop
-loop-less-2 c = omega (arith, (c .before .before .before .before .before .before .before .before .before .again .ensures (c .before .before .before .before .before .before .before .before .if2 .taken)) .3)
+loop-less-2 c =
+    let arm = again-arm c in
+    let again = arm .before .again .ensures (arm .if2 .taken) in
+    omega (arith, again .3)
 
 loop-again-2 : tie.Need-loop-again-2 Inv-loop μ-loop
-loop-again-2 c = (
-  again-more (c .before .before .before .before .before .before .before .before .before .before .before .before .before .before .loop .inv .0) (c .before .before .before .before .before .before .before .before .before .before .before .before .before .loop-test .taken) (c .before .before .before .before .before .before .before .before .before .before .before .before .before .before .before .before .before .before .pre .0) (c .before .before .before .before .before .before .before .before .before .before .before .before .before .before .loop .inv .1) (c .before .before .before .before .before .before .before .before .before .before .before .before .byte .ensures .0) 8 (c .before .before .before .before .before .before .before .before .before .again .ensures (c .before .before .before .before .before .before .before .before .if2 .taken)),
-  known-on _ (c .before .before .before .before .before .before .before .before .before .before .before .before .before .before .loop .inv .1) (c .before .before .before .before .before .before .before .before .before .before .before .before .before .loop-test .taken),
-  c .before .before .before .before .fill-short .ensures .0 ∙ again-kinds (c .before .before .before .before .before .before .before .before .before .before .before .before .before .before .loop .inv .0) (c .before .before .before .before .before .before .before .before .before .before .before .before .before .loop-test .taken) (c .before .before .before .before .before .before .before .before .before .before .before .before .before .before .before .before .before .before .pre .0) (c .before .before .before .before .before .before .before .before .before .before .before .before .before .before .loop .inv .1) (c .before .before .before .before .before .before .before .before .before .before .before .before .byte .ensures .0) 8 (c .before .before .before .before .before .before .before .before .before .again .ensures (c .before .before .before .before .before .before .before .before .if2 .taken)) _ (c .before .before .before .before .before .before .before .before .before .before .before .bits .ensures) (c .before .before .before .before .before .before .before .kind2 .ensures) (c .before .before .before .before .before .before .before .before .before .before .before .before .before .before .loop .inv .2),
-  c .before .before .before .before .fill-short .ensures .1 ∙ again-payloads (c .before .before .before .before .before .before .before .before .before .before .before .before .before .before .loop .inv .0) (c .before .before .before .before .before .before .before .before .before .before .before .before .before .loop-test .taken) (c .before .before .before .before .before .before .before .before .before .before .before .before .before .before .before .before .before .before .pre .0) (c .before .before .before .before .before .before .before .before .before .before .before .before .before .before .loop .inv .1) (c .before .before .before .before .before .before .before .before .before .before .before .before .byte .ensures .0) 8 (c .before .before .before .before .before .before .before .before .before .again .ensures (c .before .before .before .before .before .before .before .before .if2 .taken)) _ (c .before .before .before .before .before .before .before .before .before .before .before .before .before .before .loop .inv .3),
-)
+loop-again-2 c =
+    let arm = again-arm c in
+    let turn = again-turn arm in
+    let inv = head turn .loop .inv in
+    let short = start turn .pre .0 in
+    let some = entered turn .loop-test .taken in
+    let byte = turn .before .byte .ensures .0 in
+    let again = arm .before .again .ensures (arm .if2 .taken) in
+    let filled = c .before .before .before .before .fill-short .ensures in (
+      again-more (inv .0) some short (inv .1) byte 8 again,
+      known-on _ (inv .1) some,
+      filled .0 ∙ again-kinds (inv .0) some short (inv .1) byte 8 again _ (turn .bits .ensures) (c .before .before .before .before .before .before .before .kind2 .ensures) (inv .2),
+      filled .1 ∙ again-payloads (inv .0) some short (inv .1) byte 8 again _ (inv .3),
+    )
 
 add-first : tie.Need-add-first Inv-loop μ-loop
-add-first c = omega (arith, (c .before .before .before .before .before .before .loop .inv .0) .within, c .before .before .before .before .before .before .before .before .before .before .pre .0)
+add-first c =
+    let turn = c .before .before .before in
+    omega (arith, head turn .loop .inv .0 .within, start turn .pre .0)
 
 bits-requires-3 : tie.Need-bits-requires-3 Inv-loop μ-loop
 bits-requires-3 c κs = search needs
 
 add-first-2 : tie.Need-add-first-2 Inv-loop μ-loop
-add-first-2 c = omega (arith, (c .before .before .before .before .before .before .before .loop .inv .0) .within, c .before .before .before .before .before .before .before .before .before .before .before .pre .0, c .bits3 .ensures, field-lt 1 7 1 (c .before .before .before .before .before .byte .result) (omega arith))
+add-first-2 c =
+    let turn = c .before .before .before .before in
+    let high = field-lt 1 7 1 (turn .before .byte .result) (omega arith) in
+    omega (arith, head turn .loop .inv .0 .within, start turn .pre .0, c .bits3 .ensures, high)
 
 add-byte : tie.Need-add-byte Inv-loop μ-loop
-add-byte c = omega (arith, (c .before .before .before .before .before .before .before .loop .inv .0) .within, c .before .before .before .before .before .before .before .before .before .before .before .pre .0)
+add-byte c =
+    let turn = c .before .before .before .before in
+    omega (arith, head turn .loop .inv .0 .within, start turn .pre .0)
 
 byte-requires-2 : tie.Need-byte-requires-2 Inv-loop μ-loop
 byte-requires-2 c κs = search needs
@@ -134,55 +234,90 @@ width-of-requires c κs = search needs
 
 fill-requires : tie.Need-fill-requires Inv-loop μ-loop
 fill-requires c κs =
-    let g = (c .before .before .before .before .before .before .before .before .before .before .before .before .before .loop .inv .0) in
-    let l = (c .before .before .before .before .before .before .before .before .before .before .before .before .loop-test .taken) in
-    let b = (c .before .before .before .before .before .before .before .before .before .before .before .before .before .before .before .before .before .pre .0) in
-    let h = tag-there _ _ (c .before .before .before .before .before .before .before .before .before .before .before .before .before .before .before .before .before .pre .0) (c .before .before .before .before .before .before .before .before .before .before .before .byte .ensures .0) (c .before .before .before .before .before .before .before .before .before .before .bits .ensures) (c .before .before .before .before .before .before .bits3 .ensures) (c .before .before .before .before .before .byte2 .ensures .0) (c .before .before .before .before .length-of .ensures) (whole-tag (c .before .before .before .before .before .before .before .before .before .before .before .before .before .loop .inv .0) (c .before .before .before .before .before .before .before .before .before .before .before .before .loop-test .taken) (c .before .before .before .before .before .before .before .before .before .before .before .before .before .before .before .before .before .pre .0) (c .before .before .before .before .before .before .before .before .before .before .before .byte .ensures .0) (c .before .before .before .before .before .before .bits3 .ensures) (c .before .before .before .before .before .before .before .before .before .before .before .before .before .before .before .before .before .pre .5)) in
-    let q = c .before .before .before .least2 .ensures in
-    let r = whole-room g l b h _ q (c .before .before .before .before .before .before .before .before .before .before .before .before .before .before .before .before .before .pre .5) in
-    let z = turn-within g l b h _ q in
-    (b, omega (arith, r, z), (c .before .before .width-of .ensures ∙ ap widthOf (sym (c .before .before .before .before .before .before .before .before .before .before .bits .ensures))), omega (arith, q, l, c .before .before .before .before .before .before .before .before .before .before .before .before .before .before .before .before .before .pre .3, ap length (c .before .before .before .before .before .before .before .before .before .before .before .before .before .loop .inv .2) ∙ filled-length _ _ _), omega (arith, q, l, c .before .before .before .before .before .before .before .before .before .before .before .before .before .before .before .before .before .pre .4, ap length (c .before .before .before .before .before .before .before .before .before .before .before .before .before .loop .inv .3) ∙ filled-length _ _ _))
+    let run = c .before .before in
+    let turn = run-turn run in
+    let inv = head turn .loop .inv in
+    let pre = start turn .pre in
+    let some = entered turn .loop-test .taken in
+    let tag = turn .bits .ensures in
+    let high = run .before .before .before .before .bits3 .ensures in
+    let second = run .before .before .before .byte2 .ensures .0 in
+    let len = run .before .before .length-of .ensures in
+    let there = whole-there (inv .0) some (pre .0) (turn .before .byte .ensures .0) tag high second len (pre .5) in
+    let few = run .before .least2 .ensures in
+    let room = whole-room (inv .0) some (pre .0) there _ few (pre .5) in
+    let within = turn-within (inv .0) some (pre .0) there _ few in (
+      pre .0,
+      omega (arith, room, within),
+      run .width-of .ensures ∙ ap widthOf (sym tag),
+      filled-room _ _ _ (inv .2) (pre .3) (omega (arith, few, some)),
+      filled-room _ _ _ (inv .3) (pre .4) (omega (arith, few, some)),
+    )
 
 mul-at-2 : tie.Need-mul-at-2 Inv-loop μ-loop
-mul-at-2 c = omega (arith, small-product (c .before .before .before .before .before .before .before .before .least2 .result) (c .before .before .before .before .before .before .before .width-of .result) (omega (arith, c .before .before .before .before .before .before .before .before .least2 .ensures, c .before .before .before .before .before .before .before .before .before .before .before .before .before .before .before .before .before .before .before .before .before .before .pre .2)) (rw (c .before .before .before .before .before .before .before .width-of .ensures) (width-most _)))
+mul-at-2 c =
+    let run = made-out c in
+    let few = run .before .least2 in
+    let most : few .result < 4294967296 = omega (arith, few .ensures, start (run-turn run) .pre .2) in
+    omega (arith, small-product (few .result) (run .width-of .result) most (rw (run .width-of .ensures) (width-most _)))
 
 add-at-4 : tie.Need-add-at-4 Inv-loop μ-loop
 add-at-4 c =
-    let g = (c .before .before .before .before .before .before .before .before .before .before .before .before .before .before .before .before .before .before .loop .inv .0) in
-    let l = (c .before .before .before .before .before .before .before .before .before .before .before .before .before .before .before .before .before .loop-test .taken) in
-    let b = (c .before .before .before .before .before .before .before .before .before .before .before .before .before .before .before .before .before .before .before .before .before .before .pre .0) in
-    let h = tag-there _ _ (c .before .before .before .before .before .before .before .before .before .before .before .before .before .before .before .before .before .before .before .before .before .before .pre .0) (c .before .before .before .before .before .before .before .before .before .before .before .before .before .before .before .before .byte .ensures .0) (c .before .before .before .before .before .before .before .before .before .before .before .before .before .before .before .bits .ensures) (c .before .before .before .before .before .before .before .before .before .before .before .bits3 .ensures) (c .before .before .before .before .before .before .before .before .before .before .byte2 .ensures .0) (c .before .before .before .before .before .before .before .before .before .length-of .ensures) (whole-tag (c .before .before .before .before .before .before .before .before .before .before .before .before .before .before .before .before .before .before .loop .inv .0) (c .before .before .before .before .before .before .before .before .before .before .before .before .before .before .before .before .before .loop-test .taken) (c .before .before .before .before .before .before .before .before .before .before .before .before .before .before .before .before .before .before .before .before .before .before .pre .0) (c .before .before .before .before .before .before .before .before .before .before .before .before .before .before .before .before .byte .ensures .0) (c .before .before .before .before .before .before .before .before .before .before .before .bits3 .ensures) (c .before .before .before .before .before .before .before .before .before .before .before .before .before .before .before .before .before .before .before .before .before .before .pre .5)) in
-    let q = c .before .before .before .before .before .before .before .before .least2 .ensures in
-    let r = whole-room g l b h _ q (c .before .before .before .before .before .before .before .before .before .before .before .before .before .before .before .before .before .before .before .before .before .before .pre .5) in
-    let z = turn-within g l b h _ q in
-    rw (c .before .before .before .before .before .before .before .width-of .ensures ∙ ap widthOf (sym (c .before .before .before .before .before .before .before .before .before .before .before .before .before .before .before .bits .ensures))) (omega (arith, r, z, b))
+    let run = made-out c in
+    let turn = run-turn run in
+    let inv = head turn .loop .inv in
+    let pre = start turn .pre in
+    let some = entered turn .loop-test .taken in
+    let tag = turn .bits .ensures in
+    let high = run .before .before .before .before .bits3 .ensures in
+    let second = run .before .before .before .byte2 .ensures .0 in
+    let len = run .before .before .length-of .ensures in
+    let there = whole-there (inv .0) some (pre .0) (turn .before .byte .ensures .0) tag high second len (pre .5) in
+    let few = run .before .least2 .ensures in
+    let room = whole-room (inv .0) some (pre .0) there _ few (pre .5) in
+    let within = turn-within (inv .0) some (pre .0) there _ few in
+    rw (run .width-of .ensures ∙ ap widthOf (sym tag)) (omega (arith, room, within, pre .0))
 
 add-done-3 : tie.Need-add-done-3 Inv-loop μ-loop
-add-done-3 c = omega (arith, c .before .before .before .before .before .before .before .before .least2 .ensures)
+add-done-3 c = omega (arith, made-out c .before .least2 .ensures)
 
 loop-less-3 : tie.Need-loop-less-3 Inv-loop μ-loop
 loop-less-3 c =
-    let g = (c .before .before .before .before .before .before .before .before .before .before .before .before .before .before .before .before .before .before .loop .inv .0) in
-    let l = (c .before .before .before .before .before .before .before .before .before .before .before .before .before .before .before .before .before .loop-test .taken) in
-    let b = (c .before .before .before .before .before .before .before .before .before .before .before .before .before .before .before .before .before .before .before .before .before .before .pre .0) in
-    let h = tag-there _ _ (c .before .before .before .before .before .before .before .before .before .before .before .before .before .before .before .before .before .before .before .before .before .before .pre .0) (c .before .before .before .before .before .before .before .before .before .before .before .before .before .before .before .before .byte .ensures .0) (c .before .before .before .before .before .before .before .before .before .before .before .before .before .before .before .bits .ensures) (c .before .before .before .before .before .before .before .before .before .before .before .bits3 .ensures) (c .before .before .before .before .before .before .before .before .before .before .byte2 .ensures .0) (c .before .before .before .before .before .before .before .before .before .length-of .ensures) (whole-tag (c .before .before .before .before .before .before .before .before .before .before .before .before .before .before .before .before .before .before .loop .inv .0) (c .before .before .before .before .before .before .before .before .before .before .before .before .before .before .before .before .before .loop-test .taken) (c .before .before .before .before .before .before .before .before .before .before .before .before .before .before .before .before .before .before .before .before .before .before .pre .0) (c .before .before .before .before .before .before .before .before .before .before .before .before .before .before .before .before .byte .ensures .0) (c .before .before .before .before .before .before .before .before .before .before .before .bits3 .ensures) (c .before .before .before .before .before .before .before .before .before .before .before .before .before .before .before .before .before .before .before .before .before .before .pre .5)) in
-    let q = c .before .before .before .before .before .before .before .before .least2 .ensures in
-    let r = whole-room g l b h _ q (c .before .before .before .before .before .before .before .before .before .before .before .before .before .before .before .before .before .before .before .before .before .before .pre .5) in
-    let z = turn-within g l b h _ q in
-    rw (c .before .before .before .before .before .before .before .width-of .ensures ∙ ap widthOf (sym (c .before .before .before .before .before .before .before .before .before .before .before .before .before .before .before .bits .ensures))) (omega (arith, r, b, z, turn-on g l b h _ q))
+    let run = made-out c in
+    let turn = run-turn run in
+    let inv = head turn .loop .inv in
+    let pre = start turn .pre in
+    let some = entered turn .loop-test .taken in
+    let tag = turn .bits .ensures in
+    let high = run .before .before .before .before .bits3 .ensures in
+    let second = run .before .before .before .byte2 .ensures .0 in
+    let len = run .before .before .length-of .ensures in
+    let there = whole-there (inv .0) some (pre .0) (turn .before .byte .ensures .0) tag high second len (pre .5) in
+    let few = run .before .least2 .ensures in
+    let room = whole-room (inv .0) some (pre .0) there _ few (pre .5) in
+    let within = turn-within (inv .0) some (pre .0) there _ few in
+    let on = turn-on (inv .0) some (pre .0) there _ few in
+    rw (run .width-of .ensures ∙ ap widthOf (sym tag)) (omega (arith, room, pre .0, within, on))
 
 loop-again-3 : tie.Need-loop-again-3 Inv-loop μ-loop
 loop-again-3 c =
-    let g = (c .before .before .before .before .before .before .before .before .before .before .before .before .before .before .before .before .before .before .loop .inv .0) in
-    let l = (c .before .before .before .before .before .before .before .before .before .before .before .before .before .before .before .before .before .loop-test .taken) in
-    let b = (c .before .before .before .before .before .before .before .before .before .before .before .before .before .before .before .before .before .before .before .before .before .before .pre .0) in
-    let h = tag-there _ _ (c .before .before .before .before .before .before .before .before .before .before .before .before .before .before .before .before .before .before .before .before .before .before .pre .0) (c .before .before .before .before .before .before .before .before .before .before .before .before .before .before .before .before .byte .ensures .0) (c .before .before .before .before .before .before .before .before .before .before .before .before .before .before .before .bits .ensures) (c .before .before .before .before .before .before .before .before .before .before .before .bits3 .ensures) (c .before .before .before .before .before .before .before .before .before .before .byte2 .ensures .0) (c .before .before .before .before .before .before .before .before .before .length-of .ensures) (whole-tag (c .before .before .before .before .before .before .before .before .before .before .before .before .before .before .before .before .before .before .loop .inv .0) (c .before .before .before .before .before .before .before .before .before .before .before .before .before .before .before .before .before .loop-test .taken) (c .before .before .before .before .before .before .before .before .before .before .before .before .before .before .before .before .before .before .before .before .before .before .pre .0) (c .before .before .before .before .before .before .before .before .before .before .before .before .before .before .before .before .byte .ensures .0) (c .before .before .before .before .before .before .before .before .before .before .before .bits3 .ensures) (c .before .before .before .before .before .before .before .before .before .before .before .before .before .before .before .before .before .before .before .before .before .before .pre .5)) in
-    let q = c .before .before .before .before .before .before .before .before .least2 .ensures in
-    let r = whole-room g l b h _ q (c .before .before .before .before .before .before .before .before .before .before .before .before .before .before .before .before .before .before .before .before .before .before .pre .5) in (
-      rw (c .before .before .before .before .before .before .before .width-of .ensures ∙ ap widthOf (sym (c .before .before .before .before .before .before .before .before .before .before .before .before .before .before .before .bits .ensures))) (passed-more g l b h _ q r),
-      known-next _ _ l (c .before .before .before .before .before .before .before .before .before .before .before .before .before .before .before .before .before .before .before .before .before .before .pre .2) (c .before .before .before .before .before .before .before .before .before .length-of .ensures) q (c .before .before .before .before .before .before .before .width-of .ensures),
-      c .before .before .before .before .fill .ensures .0 ∙ kinds-more g l b h _ q _ r refl (c .before .before .before .before .before .before .before .before .before .before .before .before .before .before .before .before .before .before .loop .inv .2),
-      c .before .before .before .before .fill .ensures .1 ∙ payloads-more g l b h _ q _ r (c .before .before .before .before .before .before .before .before .before .before .before .before .before .before .before .before .before .before .loop .inv .3),
+    let run = made-out c in
+    let turn = run-turn run in
+    let inv = head turn .loop .inv in
+    let pre = start turn .pre in
+    let some = entered turn .loop-test .taken in
+    let tag = turn .bits .ensures in
+    let high = run .before .before .before .before .bits3 .ensures in
+    let second = run .before .before .before .byte2 .ensures .0 in
+    let len = run .before .before .length-of .ensures in
+    let there = whole-there (inv .0) some (pre .0) (turn .before .byte .ensures .0) tag high second len (pre .5) in
+    let few = run .before .least2 .ensures in
+    let room = whole-room (inv .0) some (pre .0) there _ few (pre .5) in
+    let filled = c .before .before .before .before .fill .ensures in (
+      rw (run .width-of .ensures ∙ ap widthOf (sym tag)) (passed-more (inv .0) some (pre .0) there _ few room),
+      known-next _ _ some (pre .2) len few (run .width-of .ensures),
+      filled .0 ∙ kinds-more (inv .0) some (pre .0) there _ few _ room refl (inv .2),
+      filled .1 ∙ payloads-more (inv .0) some (pre .0) there _ few _ room (inv .3),
     )
 
 same-length : tie.Need-same-length Inv-loop μ-loop

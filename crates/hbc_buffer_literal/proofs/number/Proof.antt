@@ -1,6 +1,6 @@
 use mathlib.Core.Path.{sym, ap, _∙_}
 use Rattle.hbc_io.specs.Outcome.{valued}
-use Rattle.hbc_io.specs.Answers.{ofF64}
+use Rattle.hbc_io.specs.Answers.{saysF64}
 use Rattle.hbc_io.proofs.Reading.{found}
 use Rattle.hbc_buffer_literal.specs.declared.Literal.the-variants.{Number}
 use Rattle.hbc_buffer_literal.proofs.Laws.{number-is}
@@ -18,10 +18,10 @@ enum-known-r : tie.Need-enum-known-r
 enum-known-r c = search needs
 
 returns : tie.Need-returns
-returns c = ap (valued Number) (sym (found ofF64 (c .before .before .before .read-f64 .ensures) (c .before .x .given .1))) ∙ number-is _ _
+returns c = ap (valued Number) (sym (found saysF64 (c .before .before .before .read-f64 .ensures) (c .before .x .given .1))) ∙ number-is _ _
 
 returns-2 : tie.Need-returns-2
-returns-2 c = ap (valued Number) (sym (found ofF64 (c .before .before .before .read-f64 .ensures) (c .before .r .given .1))) ∙ number-is _ _
+returns-2 c = ap (valued Number) (sym (found saysF64 (c .before .before .before .read-f64 .ensures) (c .before .r .given .1))) ∙ number-is _ _
 
 pub number-spec : {M : Type 1} → statement M
 number-spec = tie.close (tie.spec read-f64-requires enum-known-x enum-known-r returns returns-2)

@@ -16,7 +16,9 @@ same-length-2 : tie.Need-same-length-2
 same-length-2 c = search needs
 
 returns : tie.Need-returns
-returns c = of-keys (c .before .before .before .before .before .before .before .before .if1 .taken) (c .before .before .before .before .before .read-series .ensures) (c .object-of .ensures)
+returns c =
+    let read = c .before .before .before .before .before in
+    of-keys _ _ _ _ _ (read .before .before .before .if1 .taken) (read .read-series .ensures) (c .object-of .ensures)
 
 read-series-requires-2 : tie.Need-read-series-requires-2
 read-series-requires-2 c κs = search needs
@@ -31,7 +33,9 @@ same-length-4 : tie.Need-same-length-4
 same-length-4 c = search needs
 
 returns-2 : tie.Need-returns-2
-returns-2 c = of-values (c .before .before .before .before .before .before .before .before .if1 .left) (c .before .before .before .before .before .read-series2 .ensures) (c .object-of2 .ensures)
+returns-2 c =
+    let read = c .before .before .before .before .before in
+    of-values _ _ _ _ _ (read .before .before .before .if1 .left) (read .read-series2 .ensures) (c .object-of2 .ensures)
 
 pub read-object-spec : {M : Type 1} → statement M
 read-object-spec =

@@ -1,5 +1,4 @@
 use denote.Ref.{now}
-use Rattle.hbc_debug.specs.Debug.{tables}
 use Rattle.hbc_debug.proofs.Within.{section-refused, section-found, base-fits}
 use borrow.Author.Needs.{needs}
 use Rattle.hbc_debug.proofs.read_debug.Statement.{statement}
@@ -24,10 +23,10 @@ part-bytes-requires-3 : tie.Need-part-bytes-requires-3
 part-bytes-requires-3 c κs = search needs
 
 read-parts-requires : tie.Need-read-parts-requires
-read-parts-requires c κs = base-fits (now (c .before .before .before .before .before .before .before .before .before .before .before .before .before .before .before .before .before .before .args .file)) (c .before .before .before .before .before .before .before .before .before .before .before .before .before .before .before .before .before .before .args .offset) (tables (now (c .before .before .before .before .before .before .before .before .before .before .before .before .before .before .before .before .before .before .args .strings)) (now (c .before .before .before .before .before .before .before .before .before .before .before .before .before .before .before .before .before .before .args .scopes)) (now (c .before .before .before .before .before .before .before .before .before .before .before .before .before .before .before .before .before .before .args .names)) (now (c .before .before .before .before .before .before .before .before .before .before .before .before .before .before .before .before .before .before .args .callees))) _ (c .before .before .before .before .before .before .before .before .before .before .p .given .0 .0) _ (c .before .before .before .before .before .before .before .before .before .before .before .before .find-parts .ensures) (c .before .before .before .before .before .before .before .before .before .before .p .given .1) (c .before .before .before .before .before .before .part-bytes .ensures)
+read-parts-requires c κs = base-fits (now (c .before .before .before .before .before .before .before .before .before .before .before .before .before .before .before .before .before .before .args .file)) (c .before .before .before .before .before .before .before .before .before .before .before .before .before .before .before .before .before .before .args .offset) (c .before .before .before .before .before .before .before .before .before .before .before .before .find-parts .ensures) (c .before .before .before .before .before .before .before .before .before .before .p .given .1) (c .before .before .before .before .before .before .part-bytes .ensures)
 
 returns : tie.Need-returns
-returns c = section-refused (now (c .before .before .before .before .before .before .before .before .before .args .file)) (c .before .before .before .before .before .before .before .before .before .args .offset) _ _ _ (c .before .before .before .find-parts .ensures) (c .before .r .given .1)
+returns c = section-refused (now (c .before .before .before .before .before .before .before .before .before .args .file)) (c .before .before .before .before .before .before .before .before .before .args .offset) _ (c .before .before .before .find-parts .ensures) (c .before .r .given .1)
 
 same-length : tie.Need-same-length
 same-length c = search needs
@@ -42,7 +41,10 @@ same-length-4 : tie.Need-same-length-4
 same-length-4 c = search needs
 
 returns-2 : tie.Need-returns-2
-returns-2 c = section-found (now (c .before .before .before .before .before .before .before .before .before .before .before .before .before .before .before .before .before .before .before .before .before .before .before .before .before .before .before .args .file)) (c .before .before .before .before .before .before .before .before .before .before .before .before .before .before .before .before .before .before .before .before .before .before .before .before .before .before .before .args .offset) _ _ (c .before .before .before .before .before .before .before .before .before .before .before .before .before .before .before .before .before .before .before .p .given .0 .0) _ _ _ _ _ (c .before .before .before .before .before .before .before .before .before .before .before .before .before .before .before .before .before .before .before .before .before .find-parts .ensures) (c .before .before .before .before .before .before .before .before .before .before .before .before .before .before .before .before .before .before .before .p .given .1) (c .before .before .before .before .before .before .before .before .before .before .before .before .before .before .before .part-bytes .ensures) (c .before .before .before .before .before .before .before .before .before .before .before .before .before .before .part-bytes2 .ensures) (c .before .before .before .before .before .before .before .before .before .before .before .before .before .part-bytes3 .ensures) (c .before .before .before .before .before .before .before .before .read-parts .ensures)
+returns-2 c =
+    let a = c .before .before .before .before .before .before .before .before .before .before .before .before .before .before .before .before .before .before .before .before .before .before .before .before .before .before .before .args in
+    section-found (now (a .file)) (a .offset) _ (c .before .before .before .before .before .before .before .before .before .before .before .before .before .before .before .before .before .before .before .before .before .find-parts .ensures) (c .before .before .before .before .before .before .before .before .before .before .before .before .before .before .before .before .before .before .before .p .given .1)
+    (c .before .before .before .before .before .before .before .before .before .before .before .before .before .before .before .part-bytes .ensures) (c .before .before .before .before .before .before .before .before .before .before .before .before .before .before .part-bytes2 .ensures) (c .before .before .before .before .before .before .before .before .before .before .before .before .before .part-bytes3 .ensures) (c .before .before .before .before .before .before .before .before .read-parts .ensures)
 
 pub read-debug-spec : {M : Type 1} → statement M
 read-debug-spec =

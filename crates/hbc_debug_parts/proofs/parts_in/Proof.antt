@@ -24,17 +24,11 @@ cast-t10-4 c = search needs
 data-to-section-requires : tie.Need-data-to-section-requires
 data-to-section-requires c κs = search needs
 
-no-part-requires : tie.Need-no-part-requires
-no-part-requires c κs = search needs
-
-no-part-requires-2 : tie.Need-no-part-requires-2
-no-part-requires-2 c κs = search needs
-
-no-part-requires-3 : tie.Need-no-part-requires-3
-no-part-requires-3 c κs = search needs
+no-parts-requires : tie.Need-no-parts-requires
+no-parts-requires c κs = search needs
 
 returns : tie.Need-returns
-returns c = in-outside _ _ _ _ _ (c .before .before .before .before .before .before .before .before .before .before .data-start .ensures .0) (c .before .before .before .before .before .data-to-section .ensures) _ _ _ (c .before .before .before .if1 .taken) (c .before .before .no-part .ensures) (c .before .no-part2 .ensures) (c .no-part3 .ensures)
+returns c = in-outside _ _ _ _ _ (c .before .before .before .before .before .before .before .before .data-start .ensures .0) (c .before .before .before .data-to-section .ensures) _ (c .before .if1 .taken) (c .no-parts .ensures)
 
 part-at-requires : tie.Need-part-at-requires
 part-at-requires c κs = search needs
@@ -58,9 +52,7 @@ parts-in-spec =
     cast-t10-3
     cast-t10-4
     data-to-section-requires
-    no-part-requires
-    no-part-requires-2
-    no-part-requires-3
+    no-parts-requires
     returns
     part-at-requires
     part-at-requires-2

@@ -2,16 +2,18 @@ use Rattle.hbc_io.proofs.Reading.{found}
 use native.Mathlib.Omega.{arith}
 use Prim.Native.Nat.{_≤_}
 use lib.ListN.{length}
-use Rattle.hbc_debug_items.proofs.Passes.{Counted, counted-first, counted-on, counted-stop, counted-done, Summed, summed-first, summed-on, summed-stop, summed-done}
+use Rattle.hbc_rows.proofs.Passes.{Counted, counted-first, counted-on, counted-stop, counted-done, Summed, summed-first, summed-on, summed-stop, summed-done}
 use Rattle.hbc_debug_scopes.specs.Scopes.{scopeAt, scopesOf, nameCount}
-use Rattle.hbc_debug_scopes.specs.Heads.{ofHead}
+use Rattle.hbc_debug_scopes.specs.Private.{saysHead}
 use Rattle.hbc_debug_scopes.proofs.Fronts.{turn, scope-refused}
 use borrow.Author.Needs.{needs}
 use Rattle.hbc_debug_scopes.proofs.count_scopes.Statement.{statement}
 use Rattle.hbc_debug_scopes.proofs.count_scopes.Tie as tie
 
+-- n scopes and their names are counted, and the scopes still to be read are the end of all; a name takes a byte, so there are no more than bytes
 abbrev Inv-loop : tie.InvT-loop
-Inv-loop s here₀ left₀ n₀ first₀ here left n first = Counted (scopeAt s) (scopesOf s) (length s) left n here × Summed (scopeAt s) nameCount (scopesOf s) left first here × (first ≤ here .at) × (here .at ≤ length s)
+Inv-loop s here₀ left₀ n₀ first₀ here left n first =
+    Counted (scopeAt s) (scopesOf s) (length s) left n here × Summed (scopeAt s) nameCount (scopesOf s) left first here × (first ≤ here .at) × (here .at ≤ length s)
 
 abbrev μ-loop : tie.MeasureT-loop
 μ-loop s here₀ left₀ n₀ first₀ here left n first = left
@@ -28,7 +30,7 @@ enum-known-r c = search needs
 
 returns : tie.Need-returns Inv-loop μ-loop
 returns c =
-    let e = scope-refused _ _ _ _ (found ofHead (c .before .before .before .read-head .ensures) (c .before .r .given .1)) in
+    let e = scope-refused _ _ _ _ (found saysHead (c .before .before .before .read-head .ensures) (c .before .r .given .1)) in
     record { scopes-are = counted-stop e (c .before .before .before .before .before .loop .inv .0); names-are = summed-stop e (c .before .before .before .before .before .loop .inv .1) }
 
 enum-known-h : tie.Need-enum-known-h Inv-loop μ-loop
@@ -42,7 +44,7 @@ add-n c = omega (arith, c .before .before .before .before .before .before .befor
 
 add-first : tie.Need-add-first Inv-loop μ-loop
 add-first c =
-    let t = turn _ _ _ _ _ _ (found ofHead (c .before .before .before .before .before .before .read-head .ensures) (c .before .before .before .before .h .given .1)) (c .before .before .count-names .ensures) in
+    let t = turn _ _ _ _ _ _ (found saysHead (c .before .before .before .before .before .before .read-head .ensures) (c .before .before .before .before .h .given .1)) (c .before .before .count-names .ensures) in
     omega (arith, t .low, t .high, c .before .before .before .before .before .before .before .before .loop .inv .2)
 
 sub-left : tie.Need-sub-left Inv-loop μ-loop
@@ -53,7 +55,7 @@ loop-less c = search needs
 
 loop-again : tie.Need-loop-again Inv-loop μ-loop
 loop-again c =
-    let t = turn _ _ _ _ _ _ (found ofHead (c .before .before .before .before .before .before .read-head .ensures) (c .before .before .before .before .h .given .1)) (c .before .before .count-names .ensures) in
+    let t = turn _ _ _ _ _ _ (found saysHead (c .before .before .before .before .before .before .read-head .ensures) (c .before .before .before .before .h .given .1)) (c .before .before .count-names .ensures) in
     (counted-on (c .before .before .before .before .before .before .before .loop-test .taken) (t .is) (c .before .before .before .before .before .before .before .before .loop .inv .0), summed-on _ (c .before .before .before .before .before .before .before .loop-test .taken) (t .is) (t .count) (c .before .before .before .before .before .before .before .before .loop .inv .1), omega (arith, t .low, c .before .before .before .before .before .before .before .before .loop .inv .2), omega (arith, t .high))
 
 returns-2 : tie.Need-returns-2 Inv-loop μ-loop

@@ -4,15 +4,15 @@ use Rattle.hbc_io.specs.Outcome.{refused}
 use Rattle.hbc_io.specs.declared.Refusal.{Refusal}
 use denote.Ref.{now}
 use Rattle.hbc_io.proofs.Reading.{found}
-use Rattle.hbc_debug_items.specs.Signed.{ofHeld}
-use Rattle.hbc_debug_items.proofs.Reading.{bits-got, bits-inside}
+use Rattle.hbc_io_leb.specs.Signed.{saysHeld}
+use Rattle.hbc_io_leb.proofs.Helds.{bits-got, bits-inside}
 use Rattle.hbc_debug_scopes.proofs.Fronts.{head-1, head-2, head-3, head-4, head-5}
 use borrow.Author.Needs.{needs}
 use Rattle.hbc_debug_scopes.proofs.read_head.Statement.{statement}
 use Rattle.hbc_debug_scopes.proofs.read_head.Tie as tie
 
-read-bits-requires : tie.Need-read-bits-requires
-read-bits-requires c κs = search needs
+read-sleb128-bits-requires : tie.Need-read-sleb128-bits-requires
+read-sleb128-bits-requires c κs = search needs
 
 enum-known-r : tie.Need-enum-known-r
 enum-known-r c = search needs
@@ -20,8 +20,8 @@ enum-known-r c = search needs
 enum-known-parent : tie.Need-enum-known-parent
 enum-known-parent c = search needs
 
-read-bits-requires-2 : tie.Need-read-bits-requires-2
-read-bits-requires-2 c κs = search needs
+read-sleb128-bits-requires-2 : tie.Need-read-sleb128-bits-requires-2
+read-sleb128-bits-requires-2 c κs = search needs
 
 enum-known-r-2 : tie.Need-enum-known-r-2
 enum-known-r-2 c = search needs
@@ -29,8 +29,8 @@ enum-known-r-2 c = search needs
 enum-known-flags : tie.Need-enum-known-flags
 enum-known-flags c = search needs
 
-read-bits-requires-3 : tie.Need-read-bits-requires-3
-read-bits-requires-3 c κs = search needs
+read-sleb128-bits-requires-3 : tie.Need-read-sleb128-bits-requires-3
+read-sleb128-bits-requires-3 c κs = search needs
 
 enum-known-r-3 : tie.Need-enum-known-r-3
 enum-known-r-3 c = search needs
@@ -39,7 +39,7 @@ enum-known-count : tie.Need-enum-known-count
 enum-known-count c = search needs
 
 sub-if1 : tie.Need-sub-if1
-sub-if1 c = omega (arith, bits-inside (bits-got _ _ _ _ (found ofHeld (c .before .before .before .before .read-bits3 .ensures) (c .before .before .count .given .1))))
+sub-if1 c = omega (arith, bits-inside (bits-got _ _ _ _ (found saysHeld (c .before .before .before .before .read-sleb128-bits3 .ensures) (c .before .before .count .given .1))))
 
 word-below-requires : tie.Need-word-below-requires
 word-below-requires c κs = search needs
@@ -48,34 +48,34 @@ cast-t30 : tie.Need-cast-t30
 cast-t30 c = search needs
 
 returns : tie.Need-returns
-returns c = head-4 (now (c .before .before .before .before .before .before .before .before .before .before .before .before .before .before .before .before .before .before .args .s)) (c .before .before .before .before .before .before .before .before .before .before .before .before .before .before .before .before .before .before .args .c) _ _ (found ofHeld (c .before .before .before .before .before .before .before .before .before .before .before .before .before .before .before .before .read-bits .ensures) (c .before .before .before .before .before .before .before .before .before .before .before .before .before .before .parent .given .1)) _ _ (found ofHeld (c .before .before .before .before .before .before .before .before .before .before .before .before .read-bits2 .ensures) (c .before .before .before .before .before .before .before .before .before .before .flags .given .1)) _ _ (found ofHeld (c .before .before .before .before .before .before .before .before .read-bits3 .ensures) (c .before .before .before .before .before .before .count .given .1)) (omega (arith, c .before .before .before .before .before .before .before .before .before .before .before .before .before .before .before .before .before .before .good)) _ (c .before .before .if1 .taken) (c .before .word-below .ensures)
+returns c = head-4 (now (c .before .before .before .before .before .before .before .before .before .before .before .before .before .before .before .before .before .before .args .s)) (c .before .before .before .before .before .before .before .before .before .before .before .before .before .before .before .before .before .before .args .c) _ _ (found saysHeld (c .before .before .before .before .before .before .before .before .before .before .before .before .before .before .before .before .read-sleb128-bits .ensures) (c .before .before .before .before .before .before .before .before .before .before .before .before .before .before .parent .given .1)) _ _ (found saysHeld (c .before .before .before .before .before .before .before .before .before .before .before .before .read-sleb128-bits2 .ensures) (c .before .before .before .before .before .before .before .before .before .before .flags .given .1)) _ _ (found saysHeld (c .before .before .before .before .before .before .before .before .read-sleb128-bits3 .ensures) (c .before .before .before .before .before .before .count .given .1)) (omega (arith, c .before .before .before .before .before .before .before .before .before .before .before .before .before .before .before .before .before .before .good)) _ (c .before .before .if1 .taken) (c .before .word-below .ensures)
 
 refuse-requires : tie.Need-refuse-requires
 refuse-requires c κs = search needs
 
 returns-2 : tie.Need-returns-2
-returns-2 c = head-1 (now (c .before .before .before .before .before .args .s)) (c .before .before .before .before .before .args .c) _ _ (found ofHeld (c .before .before .before .read-bits .ensures) (c .before .r .given .1))
+returns-2 c = head-1 (now (c .before .before .before .before .before .args .s)) (c .before .before .before .before .before .args .c) _ _ (found saysHeld (c .before .before .before .read-sleb128-bits .ensures) (c .before .r .given .1))
 
 returns-3 : tie.Need-returns-3
-returns-3 c = head-2 (now (c .before .before .before .before .before .before .before .before .before .args .s)) (c .before .before .before .before .before .before .before .before .before .args .c) _ _ (found ofHeld (c .before .before .before .before .before .before .before .read-bits .ensures) (c .before .before .before .before .before .parent .given .1)) _ _ (found ofHeld (c .before .before .before .read-bits2 .ensures) (c .before .r2 .given .1))
+returns-3 c = head-2 (now (c .before .before .before .before .before .before .before .before .before .args .s)) (c .before .before .before .before .before .before .before .before .before .args .c) _ _ (found saysHeld (c .before .before .before .before .before .before .before .read-sleb128-bits .ensures) (c .before .before .before .before .before .parent .given .1)) _ _ (found saysHeld (c .before .before .before .read-sleb128-bits2 .ensures) (c .before .r2 .given .1))
 
 returns-4 : tie.Need-returns-4
-returns-4 c = head-3 (now (c .before .before .before .before .before .before .before .before .before .before .before .before .before .args .s)) (c .before .before .before .before .before .before .before .before .before .before .before .before .before .args .c) _ _ (found ofHeld (c .before .before .before .before .before .before .before .before .before .before .before .read-bits .ensures) (c .before .before .before .before .before .before .before .before .before .parent .given .1)) _ _ (found ofHeld (c .before .before .before .before .before .before .before .read-bits2 .ensures) (c .before .before .before .before .before .flags .given .1)) _ _ (found ofHeld (c .before .before .before .read-bits3 .ensures) (c .before .r3 .given .1))
+returns-4 c = head-3 (now (c .before .before .before .before .before .before .before .before .before .before .before .before .before .args .s)) (c .before .before .before .before .before .before .before .before .before .before .before .before .before .args .c) _ _ (found saysHeld (c .before .before .before .before .before .before .before .before .before .before .before .read-sleb128-bits .ensures) (c .before .before .before .before .before .before .before .before .before .parent .given .1)) _ _ (found saysHeld (c .before .before .before .before .before .before .before .read-sleb128-bits2 .ensures) (c .before .before .before .before .before .flags .given .1)) _ _ (found saysHeld (c .before .before .before .read-sleb128-bits3 .ensures) (c .before .r3 .given .1))
 
 returns-5 : tie.Need-returns-5
-returns-5 c = ap (λ (x : Refusal). refused x (c .before .before .before .before .before .count .given .0 .1 .0)) (c .refuse .ensures) ∙ head-5 (now (c .before .before .before .before .before .before .before .before .before .before .before .before .before .before .before .before .before .args .s)) (c .before .before .before .before .before .before .before .before .before .before .before .before .before .before .before .before .before .args .c) _ _ (found ofHeld (c .before .before .before .before .before .before .before .before .before .before .before .before .before .before .before .read-bits .ensures) (c .before .before .before .before .before .before .before .before .before .before .before .before .before .parent .given .1)) _ _ (found ofHeld (c .before .before .before .before .before .before .before .before .before .before .before .read-bits2 .ensures) (c .before .before .before .before .before .before .before .before .before .flags .given .1)) _ _ (found ofHeld (c .before .before .before .before .before .before .before .read-bits3 .ensures) (c .before .before .before .before .before .count .given .1)) (omega (arith, c .before .before .before .before .before .before .before .before .before .before .before .before .before .before .before .before .before .good)) (c .before .if1 .left)
+returns-5 c = ap (λ (x : Refusal). refused x (c .before .before .before .before .before .count .given .0 .1 .0)) (c .refuse .ensures) ∙ head-5 (now (c .before .before .before .before .before .before .before .before .before .before .before .before .before .before .before .before .before .args .s)) (c .before .before .before .before .before .before .before .before .before .before .before .before .before .before .before .before .before .args .c) _ _ (found saysHeld (c .before .before .before .before .before .before .before .before .before .before .before .before .before .before .before .read-sleb128-bits .ensures) (c .before .before .before .before .before .before .before .before .before .before .before .before .before .parent .given .1)) _ _ (found saysHeld (c .before .before .before .before .before .before .before .before .before .before .before .read-sleb128-bits2 .ensures) (c .before .before .before .before .before .before .before .before .before .flags .given .1)) _ _ (found saysHeld (c .before .before .before .before .before .before .before .read-sleb128-bits3 .ensures) (c .before .before .before .before .before .count .given .1)) (omega (arith, c .before .before .before .before .before .before .before .before .before .before .before .before .before .before .before .before .before .good)) (c .before .if1 .left)
 
 pub read-head-spec : {M : Type 1} → statement M
 read-head-spec =
     tie.close
     (tie.spec
-    read-bits-requires
+    read-sleb128-bits-requires
     enum-known-r
     enum-known-parent
-    read-bits-requires-2
+    read-sleb128-bits-requires-2
     enum-known-r-2
     enum-known-flags
-    read-bits-requires-3
+    read-sleb128-bits-requires-3
     enum-known-r-3
     enum-known-count
     sub-if1

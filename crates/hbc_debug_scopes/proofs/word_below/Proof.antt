@@ -1,5 +1,5 @@
 use borrow.Author.Tests.{lt-ltb, le-ltb}
-use Rattle.hbc_debug_scopes.specs.Heads.{wordBits}
+use Rattle.hbc_debug_scopes.specs.Private.{wordBits}
 use borrow.Author.Needs.{needs}
 use Rattle.hbc_debug_scopes.proofs.word_below.Statement.{statement}
 use Rattle.hbc_debug_scopes.proofs.word_below.Tie as tie

@@ -3,16 +3,17 @@ use mathlib.Core.Path.{_≡_, refl, ap, _∙_}
 use Prim.Native.Nat.{_+_}
 use lib.Seq.{sets}
 use Rattle.hbc_io.proofs.Reading.{found}
-use Rattle.hbc_debug_items.specs.Until.{until}
-use Rattle.hbc_debug_items.specs.Signed.{slebAt, ofHeld}
-use Rattle.hbc_debug_items.proofs.Passes.{Ends, ends-first, ends-on, ends-stop, ends-done, Written, written-first, written-on, written-stop, written-done}
+use Rattle.hbc_rows.specs.Until.{until}
+use Rattle.hbc_io_leb.specs.Signed.{slebAt, saysHeld}
+use Rattle.hbc_rows.proofs.Passes.{Ends, ends-first, ends-on, ends-stop, ends-done, Written, written-first, written-on, written-stop, written-done}
 use Rattle.hbc_debug_scopes.specs.Scopes.{nameCell}
 use Rattle.hbc_debug_scopes.proofs.Fronts.{cell-is}
-use Rattle.hbc_debug_items.proofs.Reading.{bits-got, bits-refused}
+use Rattle.hbc_io_leb.proofs.Helds.{bits-got, bits-refused}
 use borrow.Author.Needs.{needs}
 use Rattle.hbc_debug_scopes.proofs.write_names.Statement.{statement}
 use Rattle.hbc_debug_scopes.proofs.write_names.Tie as tie
 
+-- n names are passed over, and their words stand from `at` on; the words still to be written make the table as it is to be
 abbrev Inv-loop : tie.InvT-loop
 Inv-loop s count strings names₀ at here₀ left₀ n₀ to₀ names here left n to = Ends (slebAt s) count here₀ left n here × Written (slebAt s) (nameCell strings) (until (slebAt s) count here₀) names₀ at left to here names × (to ≡ at + n)
 
@@ -22,8 +23,8 @@ abbrev μ-loop : tie.MeasureT-loop
 loop-holds : tie.Need-loop-holds Inv-loop μ-loop
 loop-holds c = (ends-first _ _, written-first _ _, omega arith)
 
-read-bits-requires : tie.Need-read-bits-requires Inv-loop μ-loop
-read-bits-requires c κs = search needs
+read-sleb128-bits-requires : tie.Need-read-sleb128-bits-requires Inv-loop μ-loop
+read-sleb128-bits-requires c κs = search needs
 
 enum-known-r : tie.Need-enum-known-r Inv-loop μ-loop
 enum-known-r c = search needs
@@ -33,7 +34,7 @@ same-length c = c .before .before .before .before .before .loop .inv .1 .size
 
 returns : tie.Need-returns Inv-loop μ-loop
 returns c =
-    let e = found ofHeld (c .before .before .before .read-bits .ensures) (c .before .r .given .1) in
+    let e = found saysHeld (c .before .before .before .read-sleb128-bits .ensures) (c .before .r .given .1) in
     (ends-stop (c .before .before .before .before .loop-test .taken) (bits-refused _ _ _ _ e) (c .before .before .before .before .before .loop .inv .0), written-stop (bits-refused _ _ _ _ e) (c .before .before .before .before .before .loop .inv .1))
 
 enum-known-name : tie.Need-enum-known-name Inv-loop μ-loop
@@ -62,7 +63,7 @@ loop-less c = search needs
 
 loop-again : tie.Need-loop-again Inv-loop μ-loop
 loop-again c =
-    let e = found ofHeld (c .before .before .before .before .before .before .before .before .before .read-bits .ensures) (c .before .before .before .before .before .before .before .name .given .1) in
+    let e = found saysHeld (c .before .before .before .before .before .before .before .before .before .read-sleb128-bits .ensures) (c .before .before .before .before .before .before .before .name .given .1) in
     let g = bits-got _ _ _ _ e in
     let w = cell-is (c .before .before .before .before .before .before .before .before .before .before .before .before .before .before .args .strings) g (c .before .before .before .before .before .word-below .ensures) (omega (arith, c .before .before .before .before .before .before .before .before .before .before .before .before .before .before .fits .strings)) in
     (ends-on (c .before .before .before .before .before .before .before .before .before .before .loop-test .taken) (g .is) (c .before .before .before .before .before .before .before .before .before .before .before .loop .inv .0), written-on 1 (c .before .before .before .before .before .before .before .before .before .before .loop-test .taken) (g .is) refl (c .before .before .put-words .ensures ∙ ap (sets (c .before .before .before .before .before .before .before .before .before .before .before .loop .names) (c .before .before .before .before .before .before .before .before .before .before .before .loop .to)) w) (c .before .before .before .before .before .before .before .before .before .before .before .loop .inv .1), omega (arith, c .before .before .before .before .before .before .before .before .before .before .before .loop .inv .2))
@@ -80,7 +81,7 @@ write-names-spec =
     Inv-loop
     μ-loop
     loop-holds
-    read-bits-requires
+    read-sleb128-bits-requires
     enum-known-r
     same-length
     returns

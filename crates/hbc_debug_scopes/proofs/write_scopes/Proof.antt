@@ -4,18 +4,19 @@ use mathlib.Core.Path.{_≡_, ap, _∙_}
 use Prim.Native.Nat.{_+_, _*_, _≤_}
 use lib.ListN.{length}
 use lib.Seq.{sets}
-use Rattle.hbc_debug_items.proofs.Passes.{Written, written-first, written-stop, written-done, Rowed, rowed-first, rowed-on, rowed-stop, rowed-done}
-use Rattle.hbc_debug_scopes.specs.Scopes.{scopeAt, scopesOf, nameCount, scopeRow, nameRow}
-use Rattle.hbc_debug_scopes.specs.Heads.{ofHead}
+use Rattle.hbc_rows.proofs.Passes.{Written, written-first, written-stop, written-done, Rowed, rowed-first, rowed-on, rowed-stop, rowed-done}
+use Rattle.hbc_debug_scopes.specs.Scopes.{scopeAt, scopesOf, nameCount, scopeWidth, scopeRow, nameRow}
+use Rattle.hbc_debug_scopes.specs.Private.{saysHead}
 use Rattle.hbc_debug_scopes.proofs.Fronts.{head-most, turn, turned, scope-refused, row-size}
 use borrow.Author.Needs.{needs}
 use Rattle.hbc_debug_scopes.proofs.write_scopes.Statement.{statement}
 use Rattle.hbc_debug_scopes.proofs.write_scopes.Tie as tie
 
+-- the rows and the names still to be written make the two tables as they are to be; a name takes a byte, so there are no more than bytes
 abbrev Inv-loop : tie.InvT-loop
 Inv-loop s strings rows₀ names₀ here₀ left₀ at₀ first₀ rows names here left at first =
     Rowed (scopeAt s) scopeRow nameCount (scopesOf s) rows₀ left at first here rows × Written (scopeAt s) (nameRow strings) (scopesOf s) names₀ 0 left first here names
-    × (at + 5 * left ≡ 5 * length s) × (first ≤ here .at) × (here .at ≤ length s)
+    × (at + scopeWidth * left ≡ scopeWidth * length s) × (first ≤ here .at) × (here .at ≤ length s)
 
 abbrev μ-loop : tie.MeasureT-loop
 μ-loop s strings rows₀ names₀ here₀ left₀ at₀ first₀ rows names here left at first = left
@@ -38,7 +39,7 @@ same-length-2 c = c .before .before .before .before .before .loop .inv .1 .size
 
 returns : tie.Need-returns Inv-loop μ-loop
 returns c =
-    let e = scope-refused _ _ _ _ (found ofHead (c .before .before .before .read-head .ensures) (c .before .r .given .1)) in
+    let e = scope-refused _ _ _ _ (found saysHead (c .before .before .before .read-head .ensures) (c .before .r .given .1)) in
     record { rows-are = rowed-stop e (c .before .before .before .before .before .loop .inv .0); names-are = written-stop e (c .before .before .before .before .before .loop .inv .1) }
 
 enum-known-h : tie.Need-enum-known-h Inv-loop μ-loop
@@ -46,22 +47,22 @@ enum-known-h c = search needs
 
 write-names-requires : tie.Need-write-names-requires Inv-loop μ-loop
 write-names-requires c κs =
-    let e = found ofHead (c .before .before .before .before .read-head .ensures) (c .before .before .h .given .1) in
+    let e = found saysHead (c .before .before .before .before .read-head .ensures) (c .before .before .h .given .1) in
     omega (arith, head-most _ _ _ _ e, c .before .before .before .before .before .before .loop .inv .3, c .before .before .before .before .before .before .loop .inv .4, c .before .before .before .before .before .before .before .before .before .before .good .0)
 
 cast-t19 : tie.Need-cast-t19 Inv-loop μ-loop
 cast-t19 c =
-    let t = turn _ _ _ _ _ _ (found ofHead (c .before .before .before .before .before .before .before .before .read-head .ensures) (c .before .before .before .before .before .before .h .given .1)) (c .before .before .before .write-names .ensures .0) in
+    let t = turn _ _ _ _ _ _ (found saysHead (c .before .before .before .before .before .before .before .before .read-head .ensures) (c .before .before .before .before .before .before .h .given .1)) (c .before .before .before .write-names .ensures .0) in
     omega (arith, t .short, c .before .before .before .before .before .before .before .before .before .before .loop .inv .4)
 
 cast-t20 : tie.Need-cast-t20 Inv-loop μ-loop
 cast-t20 c =
-    let t = turn _ _ _ _ _ _ (found ofHead (c .before .before .before .before .before .before .before .before .read-head .ensures) (c .before .before .before .before .before .before .h .given .1)) (c .before .before .before .write-names .ensures .0) in
+    let t = turn _ _ _ _ _ _ (found saysHead (c .before .before .before .before .before .before .before .before .read-head .ensures) (c .before .before .before .before .before .before .h .given .1)) (c .before .before .before .write-names .ensures .0) in
     omega (arith, t .short, c .before .before .before .before .before .before .before .before .before .before .loop .inv .3, c .before .before .before .before .before .before .before .before .before .before .loop .inv .4)
 
 cast-t21 : tie.Need-cast-t21 Inv-loop μ-loop
 cast-t21 c =
-    let t = turn _ _ _ _ _ _ (found ofHead (c .before .before .before .before .before .before .before .before .before .read-head .ensures) (c .before .before .before .before .before .before .before .h .given .1)) (c .before .before .before .before .write-names .ensures .0) in
+    let t = turn _ _ _ _ _ _ (found saysHead (c .before .before .before .before .before .before .before .before .before .read-head .ensures) (c .before .before .before .before .before .before .before .h .given .1)) (c .before .before .before .before .write-names .ensures .0) in
     omega (arith, t .short, t .low, t .high)
 
 slice-aggregate-put-words : tie.Need-slice-aggregate-put-words Inv-loop μ-loop
@@ -72,12 +73,12 @@ put-words-requires c κs = search needs
 
 add-at : tie.Need-add-at Inv-loop μ-loop
 add-at c =
-    let t = turn _ _ _ _ _ _ (found ofHead (c .before .before .before .before .before .before .before .before .before .before .before .before .before .before .before .read-head .ensures) (c .before .before .before .before .before .before .before .before .before .before .before .before .before .h .given .1)) (c .before .before .before .before .before .before .before .before .before .before .write-names .ensures .0) in
+    let t = turn _ _ _ _ _ _ (found saysHead (c .before .before .before .before .before .before .before .before .before .before .before .before .before .before .before .read-head .ensures) (c .before .before .before .before .before .before .before .before .before .before .before .before .before .h .given .1)) (c .before .before .before .before .before .before .before .before .before .before .write-names .ensures .0) in
     omega (arith, c .before .before .before .before .before .before .before .before .before .before .before .before .before .before .before .before .before .loop .inv .2, t .short, c .before .before .before .before .before .before .before .before .before .before .before .before .before .before .before .before .loop-test .taken)
 
 add-first : tie.Need-add-first Inv-loop μ-loop
 add-first c =
-    let t = turn _ _ _ _ _ _ (found ofHead (c .before .before .before .before .before .before .before .before .before .before .before .before .before .before .before .before .read-head .ensures) (c .before .before .before .before .before .before .before .before .before .before .before .before .before .before .h .given .1)) (c .before .before .before .before .before .before .before .before .before .before .before .write-names .ensures .0) in
+    let t = turn _ _ _ _ _ _ (found saysHead (c .before .before .before .before .before .before .before .before .before .before .before .before .before .before .before .before .read-head .ensures) (c .before .before .before .before .before .before .before .before .before .before .before .before .before .before .h .given .1)) (c .before .before .before .before .before .before .before .before .before .before .before .write-names .ensures .0) in
     omega (arith, t .short, t .low, t .high, c .before .before .before .before .before .before .before .before .before .before .before .before .before .before .before .before .before .before .loop .inv .3)
 
 sub-left : tie.Need-sub-left Inv-loop μ-loop
@@ -88,11 +89,14 @@ loop-less c = search needs
 
 loop-again : tie.Need-loop-again Inv-loop μ-loop
 loop-again c =
-    let t = turn _ _ _ _ _ _ (found ofHead (c .before .before .before .before .before .before .before .before .before .before .before .before .before .before .before .before .read-head .ensures) (c .before .before .before .before .before .before .before .before .before .before .before .before .before .before .h .given .1)) (c .before .before .before .before .before .before .before .before .before .before .before .write-names .ensures .0) in (
-      rowed-on 5 _ (c .before .before .before .before .before .before .before .before .before .before .before .before .before .before .before .before .before .loop-test .taken) (t .is) (row-size _ _) (t .count) (c .before .before .before .before .put-words .ensures ∙ ap (sets (c .before .before .before .before .before .before .before .before .before .before .before .before .before .before .before .before .before .before .loop .rows) (c .before .before .before .before .before .before .before .before .before .before .before .before .before .before .before .before .before .before .loop .at)) (t .row (c .before .before .before .before .before .before .before .before .before .before .before .before .before .before .before .before .before .before .loop .first))) (c .before .before .before .before .before .before .before .before .before .before .before .before .before .before .before .before .before .before .loop .inv .0),
-      turned _ _ t (c .before .before .before .before .before .before .before .before .before .before .before .before .before .before .before .before .before .loop-test .taken) (c .before .before .before .before .before .before .before .before .before .before .before .write-names .ensures .1) (c .before .before .before .before .before .before .before .before .before .before .before .before .before .before .before .before .before .before .loop .inv .1),
-      omega (arith, c .before .before .before .before .before .before .before .before .before .before .before .before .before .before .before .before .before .before .loop .inv .2, c .before .before .before .before .before .before .before .before .before .before .before .before .before .before .before .before .before .loop-test .taken),
-      omega (arith, t .low, c .before .before .before .before .before .before .before .before .before .before .before .before .before .before .before .before .before .before .loop .inv .3),
+    let l = c .before .before .before .before .before .before .before .before .before .before .before .before .before .before .before .before .before .before .loop in
+    let more = c .before .before .before .before .before .before .before .before .before .before .before .before .before .before .before .before .before .loop-test .taken in
+    let t = turn _ _ _ _ _ _ (found saysHead (c .before .before .before .before .before .before .before .before .before .before .before .before .before .before .before .before .read-head .ensures) (c .before .before .before .before .before .before .before .before .before .before .before .before .before .before .h .given .1)) (c .before .before .before .before .before .before .before .before .before .before .before .write-names .ensures .0) in
+    let put = c .before .before .before .before .put-words .ensures ∙ ap (sets (l .rows) (l .at)) (t .row (l .first)) in (
+      rowed-on scopeWidth _ more (t .is) (row-size _ _) (t .count) put (l .inv .0),
+      turned _ _ t more (c .before .before .before .before .before .before .before .before .before .before .before .write-names .ensures .1) (l .inv .1),
+      omega (arith, l .inv .2, more),
+      omega (arith, t .low, l .inv .3),
       omega (arith, t .high),
     )
 

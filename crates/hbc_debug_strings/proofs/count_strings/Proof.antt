@@ -1,14 +1,15 @@
 use borrow.Author.Needs.{needs}
 use native.Mathlib.Omega.{arith}
 use lib.ListN.{length}
-use Rattle.hbc_io_text.specs.Text.{prefixed}
-use Rattle.hbc_io.specs.Answers.{ofSpan}
+use Rattle.hbc_io_strings.specs.Text.{prefixed}
+use Rattle.hbc_io.specs.Answers.{saysSpan}
 use Rattle.hbc_io.proofs.Reading.{found}
-use Rattle.hbc_debug_items.proofs.Passes.{Counted, counted-first, counted-on, counted-stop, counted-done}
+use Rattle.hbc_rows.proofs.Passes.{Counted, counted-first, counted-on, counted-stop, counted-done}
 use Rattle.hbc_debug_strings.specs.Strings.{stringsOf}
 use Rattle.hbc_debug_strings.proofs.count_strings.Statement.{statement}
 use Rattle.hbc_debug_strings.proofs.count_strings.Tie as tie
 
+-- n strings are counted, and those still to be read from here are the end of all that the part has
 abbrev Inv-loop : tie.InvT-loop
 Inv-loop part here₀ left₀ n₀ here left n = Counted (prefixed part) (stringsOf part) (length part) left n here
 
@@ -29,7 +30,7 @@ enum-known-r c = search needs
 returns : tie.Need-returns Inv-loop μ-loop
 returns c =
     let l = c .before .before .before .before .before .loop in
-    let e = found ofSpan (c .before .before .before .read-length-prefixed-string .ensures) (c .before .r .given .1) in
+    let e = found saysSpan (c .before .before .before .read-length-prefixed-string .ensures) (c .before .r .given .1) in
     counted-stop e (l .inv)
 
 enum-known-next : tie.Need-enum-known-next Inv-loop μ-loop
@@ -47,7 +48,7 @@ loop-less c = search needs
 loop-again : tie.Need-loop-again Inv-loop μ-loop
 loop-again c =
     let l = c .before .before .before .before .before .loop in
-    let e = found ofSpan (c .before .before .before .read-length-prefixed-string .ensures) (c .before .next .given .1) in
+    let e = found saysSpan (c .before .before .before .read-length-prefixed-string .ensures) (c .before .next .given .1) in
     counted-on (c .before .before .before .before .loop-test .taken) e (l .inv)
 
 returns-2 : tie.Need-returns-2 Inv-loop μ-loop

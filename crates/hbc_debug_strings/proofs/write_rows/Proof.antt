@@ -4,19 +4,20 @@ use mathlib.Core.Path.{_≡_, refl, ap, _∙_}
 use mathlib.Core.List.{[], _∷_}
 use lib.ListN.{length}
 use lib.Seq.{sets}
-use Rattle.hbc_io.specs.Answers.{ofSpan}
+use Rattle.hbc_io.specs.Answers.{saysSpan}
 use Rattle.hbc_io.proofs.Reading.{found}
-use Rattle.hbc_io_text.specs.Text.{prefixed}
-use Rattle.hbc_debug_items.proofs.Passes.{Written, written-first, written-on, written-stop, written-done}
+use Rattle.hbc_io_strings.specs.Text.{prefixed}
+use Rattle.hbc_rows.proofs.Passes.{Written, written-first, written-on, written-stop, written-done}
 use Rattle.hbc_debug_parts.specs.declared.InFile.{InFile}
-use Rattle.hbc_debug_strings.specs.Strings.{stringsOf, stringRow}
+use Rattle.hbc_debug_strings.specs.Strings.{stringsOf, stringWidth, stringRow}
 use Rattle.hbc_debug_strings.proofs.Inside.{inside}
 use borrow.Author.Needs.{needs}
 use Rattle.hbc_debug_strings.proofs.write_rows.Statement.{statement}
 use Rattle.hbc_debug_strings.proofs.write_rows.Tie as tie
 
+-- the rows still to be written, over the table as it is, make the table as it is to be; two words were written for each string read
 abbrev Inv-loop : tie.InvT-loop
-Inv-loop part base rows₀ here₀ left₀ at₀ rows here left at = Written (prefixed part) (stringRow base) (stringsOf part) rows₀ 0 left at here rows × (at + 2 * left ≡ 2 * length part)
+Inv-loop part base rows₀ here₀ left₀ at₀ rows here left at = Written (prefixed part) (stringRow base) (stringsOf part) rows₀ 0 left at here rows × (at + stringWidth * left ≡ stringWidth * length part)
 
 abbrev μ-loop : tie.MeasureT-loop
 μ-loop part base rows₀ here₀ left₀ at₀ rows here left at = left
@@ -36,19 +37,19 @@ same-length : tie.Need-same-length Inv-loop μ-loop
 same-length c = c .before .before .before .before .before .loop .inv .0 .size
 
 returns : tie.Need-returns Inv-loop μ-loop
-returns c = written-stop (found ofSpan (c .before .before .before .read-length-prefixed-string .ensures) (c .before .r .given .1)) (c .before .before .before .before .before .loop .inv .0)
+returns c = written-stop (found saysSpan (c .before .before .before .read-length-prefixed-string .ensures) (c .before .r .given .1)) (c .before .before .before .before .before .loop .inv .0)
 
 enum-known-p : tie.Need-enum-known-p Inv-loop μ-loop
 enum-known-p c = search needs
 
 part-to-file-requires : tie.Need-part-to-file-requires Inv-loop μ-loop
-part-to-file-requires c κs = omega (arith, inside _ _ _ _ (found ofSpan (c .before .before .before .read-length-prefixed-string .ensures) (c .before .p .given .1)))
+part-to-file-requires c κs = omega (arith, inside _ _ _ _ (found saysSpan (c .before .before .before .read-length-prefixed-string .ensures) (c .before .p .given .1)))
 
 cast-t14 : tie.Need-cast-t14 Inv-loop μ-loop
-cast-t14 c = let f = ap (λ (x : InFile). x .0) (c .before .part-to-file .ensures) in omega (arith, inside _ _ _ _ (found ofSpan (c .before .before .before .before .before .read-length-prefixed-string .ensures) (c .before .before .before .p .given .1)))
+cast-t14 c = let f = ap (λ (x : InFile). x .0) (c .before .part-to-file .ensures) in omega (arith, inside _ _ _ _ (found saysSpan (c .before .before .before .before .before .read-length-prefixed-string .ensures) (c .before .before .before .p .given .1)))
 
 cast-t15 : tie.Need-cast-t15 Inv-loop μ-loop
-cast-t15 c = omega (arith, inside _ _ _ _ (found ofSpan (c .before .before .before .before .before .before .read-length-prefixed-string .ensures) (c .before .before .before .before .p .given .1)))
+cast-t15 c = omega (arith, inside _ _ _ _ (found saysSpan (c .before .before .before .before .before .before .read-length-prefixed-string .ensures) (c .before .before .before .before .p .given .1)))
 
 slice-aggregate-put-words : tie.Need-slice-aggregate-put-words Inv-loop μ-loop
 slice-aggregate-put-words c = search needs
@@ -67,8 +68,13 @@ loop-less c = search needs
 
 loop-again : tie.Need-loop-again Inv-loop μ-loop
 loop-again c =
-    let f = ap (λ (x : InFile). x .0) (c .before .before .before .before .before .before .before .part-to-file .ensures) in
-    (written-on 2 (c .before .before .before .before .before .before .before .before .before .before .before .before .loop-test .taken) (found ofSpan (c .before .before .before .before .before .before .before .before .before .before .before .read-length-prefixed-string .ensures) (c .before .before .before .before .before .before .before .before .before .p .given .1)) refl (c .before .before .put-words .ensures ∙ ap (λ (x : InFile). sets (c .before .before .before .before .before .before .before .before .before .before .before .before .before .loop .rows) (c .before .before .before .before .before .before .before .before .before .before .before .before .before .loop .at) (x .0 ∷ c .before .before .before .before .before .before .before .before .before .p .given .0 .0 .len ∷ [])) (c .before .before .before .before .before .before .before .part-to-file .ensures)) (c .before .before .before .before .before .before .before .before .before .before .before .before .before .loop .inv .0), omega arith)
+    let l = c .before .before .before .before .before .before .before .before .before .before .before .before .before .loop in
+    let p = c .before .before .before .before .before .before .before .before .before .p in
+    let f = c .before .before .before .before .before .before .before .part-to-file .ensures in
+    let start = ap (λ (x : InFile). x .0) f in
+    let put = c .before .before .put-words .ensures ∙ ap (λ (x : InFile). sets (l .rows) (l .at) (x .0 ∷ p .given .0 .0 .len ∷ [])) f in
+    let read = found saysSpan (c .before .before .before .before .before .before .before .before .before .before .before .read-length-prefixed-string .ensures) (p .given .1) in
+    (written-on stringWidth (c .before .before .before .before .before .before .before .before .before .before .before .before .loop-test .taken) read refl put (l .inv .0), omega arith)
 
 same-length-2 : tie.Need-same-length-2 Inv-loop μ-loop
 same-length-2 c = c .before .loop .inv .0 .size

@@ -2,13 +2,14 @@ use borrow.Author.Needs.{needs}
 use mathlib.Core.Path.{_≡_, refl, ap}
 use Prim.Native.Nat.{_≤_, _-_}
 use native.Mathlib.Omega.{arith}
-use Rattle.hbc_header.specs.Answer.{gives, asked}
-use Rattle.hbc_header.specs.Header.{functionAt}
+use Rattle.hbc_io.specs.Answer.{gives, asked}
+use Rattle.hbc_function_header.specs.Header.{functionAt}
 use Rattle.hbc_function.specs.Table.{all, scan}
-use Rattle.hbc_function.specs.Laws.{found-by, step-read, step-refused, scan-more, scan-stops, scan-done}
+use Rattle.hbc_function.proofs.Laws.{found-by, step-read, step-refused, scan-more, scan-stops, scan-done}
 use Rattle.hbc_function.proofs.check_all.Statement.{statement}
 use Rattle.hbc_function.proofs.check_all.Tie as tie
 
+-- each of functions 0 to id - 1 can be read
 abbrev Inv-loop : tie.InvT-loop
 Inv-loop s layout start count id₀ id = (id ≤ count) × (scan all (functionAt s layout start) id ≡ gives id)
 

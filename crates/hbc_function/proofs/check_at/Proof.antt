@@ -1,7 +1,7 @@
 use mathlib.Core.Path.{ap, sym, _∙_}
 use native.Mathlib.Omega.{arith}
-use Rattle.hbc_header.specs.Answer.{asked}
-use Rattle.hbc_header.specs.Laws.{read-at}
+use Rattle.hbc_io.specs.Answer.{asked}
+use Rattle.hbc_function_header.proofs.Headers.{read-at}
 use borrow.Author.Needs.{needs}
 use Rattle.hbc_function.proofs.check_at.Statement.{statement}
 use Rattle.hbc_function.proofs.check_at.Tie as tie

@@ -1,13 +1,14 @@
 use borrow.Author.Needs.{needs}
 use Prim.Native.Nat.{_-_}
 use native.Mathlib.Omega.{arith}
-use Rattle.hbc_header.specs.Header.{functionAt}
-use Rattle.hbc_header_ground.specs.Meets.{meets}
-use Rattle.hbc_function.specs.Laws.{found-by}
-use Rattle.hbc_function.specs.Passes.{Met, met-first, met-more, met-stops, met-done}
+use Rattle.hbc_function_header.specs.Header.{functionAt}
+use Rattle.hbc_function_header.specs.Meets.{meets}
+use Rattle.hbc_function.proofs.Laws.{found-by}
+use Rattle.hbc_function.proofs.Passes.{Met, met-first, met-more, met-stops, met-done}
 use Rattle.hbc_function.proofs.check_met.Statement.{statement}
 use Rattle.hbc_function.proofs.check_met.Tie as tie
 
+-- n of functions 0 to id - 1 meet the span, each of them can be read, and id is the next that meets it, if one does
 abbrev Inv-loop : tie.InvT-loop
 Inv-loop s layout start count low high first n₀ id₀ n id = Met (meets s layout start low high) (functionAt s layout start) count id n
 

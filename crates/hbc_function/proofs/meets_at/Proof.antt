@@ -1,6 +1,6 @@
 use mathlib.Core.Path.{sym, _∙_}
 use native.Mathlib.Omega.{arith}
-use Rattle.hbc_header_ground.specs.Laws.{meets-in}
+use Rattle.hbc_function_header.proofs.Meetings.{meets-in}
 use borrow.Author.Needs.{needs}
 use Rattle.hbc_function.proofs.meets_at.Statement.{statement}
 use Rattle.hbc_function.proofs.meets_at.Tie as tie

@@ -2,12 +2,13 @@ use borrow.Author.Needs.{needs}
 use mathlib.Core.Path.{sym, _∙_}
 use Prim.Native.Nat.{_-_}
 use native.Mathlib.Omega.{arith}
-use Rattle.hbc_header_ground.specs.Meets.{meets}
-use Rattle.hbc_function.specs.Next.{Skipped}
-use Rattle.hbc_function.specs.Passes.{skip-none, skip-more, next-met, next-none}
+use Rattle.hbc_function_header.specs.Meets.{meets}
+use Rattle.hbc_function.specs.Private.{Skipped}
+use Rattle.hbc_function.proofs.Passes.{skip-none, skip-more, next-met, next-none}
 use Rattle.hbc_function.proofs.next_met.Statement.{statement}
 use Rattle.hbc_function.proofs.next_met.Tie as tie
 
+-- none of functions `from` to id - 1 meets the span
 abbrev Inv-loop : tie.InvT-loop
 Inv-loop s layout start low high from count id₀ id = Skipped (meets s layout start low high) from count id
 

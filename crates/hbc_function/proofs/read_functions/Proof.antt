@@ -1,8 +1,10 @@
-use mathlib.Core.Path.{ap, _∙_}
+use mathlib.Core.Path.{refl, ap, _∙_}
 use native.Mathlib.Omega.{arith}
-use Rattle.hbc_header.specs.Answer.{refuses}
-use Rattle.hbc_function.specs.Laws.{read-long, read-past, read-small, read-done, read-stopped}
-use Rattle.hbc_function.specs.Passes.{put-whole}
+use Rattle.hbc_io.specs.Answer.{refuses}
+use Rattle.hbc_function_header.specs.Header.{saysReading}
+use Rattle.hbc_io.proofs.Exits.{stop, past, given, refused}
+use Rattle.hbc_function.specs.Table.{readAnswer}
+use Rattle.hbc_function.proofs.Passes.{put-whole}
 use borrow.Author.Needs.{needs}
 use Rattle.hbc_function.proofs.read_functions.Statement.{statement}
 use Rattle.hbc_function.proofs.read_functions.Tie as tie
@@ -11,13 +13,15 @@ refuse-requires : tie.Need-refuse-requires
 refuse-requires c κs = search needs
 
 returns : tie.Need-returns
-returns c = read-long (ap refuses (c .refuse .ensures)) (omega arith)
+unfolding readAnswer
+returns c = stop _ _ _ _ (omega arith) refl (ap refuses (c .refuse .ensures))
 
 refuse-requires-2 : tie.Need-refuse-requires-2
 refuse-requires-2 c κs = search needs
 
 returns-2 : tie.Need-returns-2
-returns-2 c = read-past (omega arith) (ap refuses (c .refuse2 .ensures)) (omega arith)
+unfolding readAnswer
+returns-2 c = past _ _ _ _ (omega arith) (stop _ _ _ _ (omega arith) refl (ap refuses (c .refuse2 .ensures)))
 
 mul-if3 : tie.Need-mul-if3
 mul-if3 c = search needs
@@ -26,7 +30,8 @@ refuse-requires-3 : tie.Need-refuse-requires-3
 refuse-requires-3 c κs = search needs
 
 returns-3 : tie.Need-returns-3
-returns-3 c = read-small (omega arith) (omega arith) (ap refuses (c .refuse3 .ensures)) (omega arith)
+unfolding readAnswer
+returns-3 c = past _ _ _ _ (omega arith) (past _ _ _ _ (omega arith) (stop _ _ _ _ (omega arith) refl (ap refuses (c .refuse3 .ensures))))
 
 check-all-requires : tie.Need-check-all-requires
 check-all-requires c κs = search needs
@@ -44,10 +49,12 @@ same-length : tie.Need-same-length
 same-length c = search needs
 
 returns-4 : tie.Need-returns-4
-returns-4 c = read-done (omega arith) (omega arith) (omega arith) (c .before .before .before .before .before .before .check-all .ensures) (c .before .before .before .before .enum-told .given .1) (c .before .before .write-rows .ensures ∙ put-whole _ _ _)
+unfolding readAnswer
+returns-4 c = past _ _ _ _ (omega arith) (past _ _ _ _ (omega arith) (past _ _ _ _ (omega arith) (given (ap saysReading (c .before .before .before .before .enum-told .given .1)) (c .before .before .before .before .before .before .check-all .ensures) (c .before .before .write-rows .ensures ∙ put-whole _ _ _))))
 
 returns-5 : tie.Need-returns-5
-returns-5 c = read-stopped (omega arith) (omega arith) (omega arith) (c .before .before .check-all .ensures) (c .enum-told2 .given .1)
+unfolding readAnswer
+returns-5 c = past _ _ _ _ (omega arith) (past _ _ _ _ (omega arith) (past _ _ _ _ (omega arith) (refused (ap saysReading (c .enum-told2 .given .1)) (c .before .before .check-all .ensures))))
 
 pub read-functions-spec : {M : Type 1} → statement M
 read-functions-spec =

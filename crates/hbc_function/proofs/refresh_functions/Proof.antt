@@ -1,8 +1,10 @@
 use mathlib.Core.Path.{refl, ap, sym, _∙_}
 use native.Mathlib.Omega.{arith}
 use Rattle.hbc_io.specs.Outcome.{refusalAt}
-use Rattle.hbc_header.specs.Answer.{refuses}
-use Rattle.hbc_function.specs.Laws.{fresh-by, fresh-long, fresh-past, fresh-reversed, fresh-outside, fresh-small, fresh-cut, fresh-done, fresh-stopped}
+use Rattle.hbc_io.specs.Answer.{refuses}
+use Rattle.hbc_io.proofs.Exits.{stop, past, given, refused}
+use Rattle.hbc_function.specs.Refresh.{refreshAnswer}
+use Rattle.hbc_function.proofs.Laws.{fresh-by}
 use borrow.Author.Needs.{needs}
 use Rattle.hbc_function.proofs.refresh_functions.Statement.{statement}
 use Rattle.hbc_function.proofs.refresh_functions.Tie as tie
@@ -11,25 +13,29 @@ refuse-requires : tie.Need-refuse-requires
 refuse-requires c κs = search needs
 
 returns : tie.Need-returns
-returns c = fresh-long (ap refuses (c .refuse .ensures)) (omega arith)
+unfolding refreshAnswer
+returns c = stop _ _ _ _ (omega arith) refl (ap refuses (c .refuse .ensures))
 
 refuse-requires-2 : tie.Need-refuse-requires-2
 refuse-requires-2 c κs = search needs
 
 returns-2 : tie.Need-returns-2
-returns-2 c = fresh-past (omega arith) (ap refuses (c .refuse2 .ensures)) (omega arith)
+unfolding refreshAnswer
+returns-2 c = past _ _ _ _ (omega arith) (stop _ _ _ _ (omega arith) refl (ap refuses (c .refuse2 .ensures)))
 
 refuse-requires-3 : tie.Need-refuse-requires-3
 refuse-requires-3 c κs = search needs
 
 returns-3 : tie.Need-returns-3
-returns-3 c = fresh-reversed (omega arith) (omega arith) (ap refuses (c .refuse3 .ensures)) (omega arith)
+unfolding refreshAnswer
+returns-3 c = past _ _ _ _ (omega arith) (past _ _ _ _ (omega arith) (stop _ _ _ _ (omega arith) refl (ap refuses (c .refuse3 .ensures))))
 
 refuse-requires-4 : tie.Need-refuse-requires-4
 refuse-requires-4 c κs = search needs
 
 returns-4 : tie.Need-returns-4
-returns-4 c = fresh-outside (omega arith) (omega arith) (omega arith) (ap refuses (c .refuse4 .ensures)) (omega arith)
+unfolding refreshAnswer
+returns-4 c = past _ _ _ _ (omega arith) (past _ _ _ _ (omega arith) (past _ _ _ _ (omega arith) (stop _ _ _ _ (omega arith) refl (ap refuses (c .refuse4 .ensures)))))
 
 mul-if5 : tie.Need-mul-if5
 mul-if5 c = search needs
@@ -38,7 +44,8 @@ refuse-requires-5 : tie.Need-refuse-requires-5
 refuse-requires-5 c κs = search needs
 
 returns-5 : tie.Need-returns-5
-returns-5 c = fresh-small (omega arith) (omega arith) (omega arith) (omega arith) (ap refuses (c .refuse5 .ensures)) (omega arith)
+unfolding refreshAnswer
+returns-5 c = past _ _ _ _ (omega arith) (past _ _ _ _ (omega arith) (past _ _ _ _ (omega arith) (past _ _ _ _ (omega arith) (stop _ _ _ _ (omega arith) refl (ap refuses (c .refuse5 .ensures))))))
 
 room-for-requires : tie.Need-room-for-requires
 room-for-requires c κs = search needs
@@ -50,7 +57,8 @@ refuse-requires-6 : tie.Need-refuse-requires-6
 refuse-requires-6 c κs = search needs
 
 returns-6 : tie.Need-returns-6
-returns-6 c = fresh-cut (omega arith) (omega arith) (omega arith) (omega arith) (omega arith) (ap refuses (c .refuse6 .ensures ∙ ap (refusalAt 3) (c .before .before .room-for .ensures))) (omega arith)
+unfolding refreshAnswer
+returns-6 c = past _ _ _ _ (omega arith) (past _ _ _ _ (omega arith) (past _ _ _ _ (omega arith) (past _ _ _ _ (omega arith) (past _ _ _ _ (omega arith) (stop _ _ _ _ (omega arith) refl (ap refuses (c .refuse6 .ensures ∙ ap (refusalAt 3) (c .before .before .room-for .ensures))))))))
 
 next-met-requires : tie.Need-next-met-requires
 next-met-requires c κs = search needs
@@ -71,10 +79,12 @@ same-length : tie.Need-same-length
 same-length c = search needs
 
 returns-7 : tie.Need-returns-7
-returns-7 c = fresh-done (omega arith) (omega arith) (omega arith) (omega arith) (omega arith) (omega arith) (fresh-by (c .before .before .before .before .before .before .before .check-met .ensures) (c .before .before .before .before .before .n .given .1)) refl (c .before .before .patch-met .ensures)
+unfolding refreshAnswer
+returns-7 c = past _ _ _ _ (omega arith) (past _ _ _ _ (omega arith) (past _ _ _ _ (omega arith) (past _ _ _ _ (omega arith) (past _ _ _ _ (omega arith) (past _ _ _ _ (omega arith) (given refl (fresh-by (c .before .before .before .before .before .before .before .check-met .ensures) (c .before .before .before .before .before .n .given .1)) (c .before .before .patch-met .ensures)))))))
 
 returns-8 : tie.Need-returns-8
-returns-8 c = fresh-stopped (omega arith) (omega arith) (omega arith) (omega arith) (omega arith) (omega arith) (fresh-by (c .before .before .before .check-met .ensures) (c .before .r .given .1)) refl
+unfolding refreshAnswer
+returns-8 c = past _ _ _ _ (omega arith) (past _ _ _ _ (omega arith) (past _ _ _ _ (omega arith) (past _ _ _ _ (omega arith) (past _ _ _ _ (omega arith) (past _ _ _ _ (omega arith) (refused refl (fresh-by (c .before .before .before .check-met .ensures) (c .before .r .given .1))))))))
 
 pub refresh-functions-spec : {M : Type 1} → statement M
 refresh-functions-spec =

@@ -1,5 +1,5 @@
 use Rattle.hbc_function.specs.Refresh.{held}
-use Rattle.hbc_function.specs.Laws.{size-pos}
+use Rattle.hbc_function.proofs.Laws.{size-pos}
 use borrow.Author.Needs.{needs}
 use Rattle.hbc_function.proofs.room_for.Statement.{statement}
 use Rattle.hbc_function.proofs.room_for.Tie as tie

@@ -1,5 +1,5 @@
 use native.Mathlib.Omega.{arith}
-use Rattle.hbc_function.specs.Laws.{row-put}
+use Rattle.hbc_function.proofs.Laws.{row-put}
 use borrow.Author.Needs.{needs}
 use Rattle.hbc_function.proofs.write_row.Statement.{statement}
 use Rattle.hbc_function.proofs.write_row.Tie as tie

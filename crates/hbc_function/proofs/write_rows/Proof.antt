@@ -3,12 +3,13 @@ use Prim.Native.Nat.{_≤_, _-_}
 use native.Mathlib.Omega.{arith}
 use lib.Dec.{leb}
 use borrow.Author.Tests.{le-leb}
-use Rattle.hbc_header.specs.Header.{functionAt}
-use Rattle.hbc_function.specs.Laws.{Put, put-more, put-done}
-use Rattle.hbc_function.specs.Passes.{put-from}
+use Rattle.hbc_function_header.specs.Header.{functionAt}
+use Rattle.hbc_function.proofs.Laws.{Put, put-long, put-more, put-done}
+use Rattle.hbc_function.proofs.Passes.{put-from}
 use Rattle.hbc_function.proofs.write_rows.Statement.{statement}
 use Rattle.hbc_function.proofs.write_rows.Tie as tie
 
+-- the table is the one lent, with the rows of functions `from` to id - 1
 abbrev Inv-loop : tie.InvT-loop
 Inv-loop s layout start from to table₀ id₀ table id = (id ≤ to) × ((from ≤ id) × Put (leb from) (functionAt s layout start) id table₀ table)
 
@@ -19,7 +20,7 @@ loop-holds : tie.Need-loop-holds Inv-loop μ-loop
 loop-holds c = (omega arith, (omega arith, put-from _ _ _))
 
 write-row-requires : tie.Need-write-row-requires Inv-loop μ-loop
-write-row-requires c κs = let l = c .before .before .loop .inv .1 .1 .long in omega arith
+write-row-requires c κs = let l = put-long (c .before .before .loop .inv .1 .1) in omega arith
 
 add-id : tie.Need-add-id Inv-loop μ-loop
 add-id c = search needs
@@ -28,10 +29,10 @@ loop-less : tie.Need-loop-less Inv-loop μ-loop
 loop-less c = search needs
 
 loop-again : tie.Need-loop-again Inv-loop μ-loop
-loop-again c = (omega arith, (omega arith, put-more (c .before .before .before .before .before .loop .inv .1 .1) (rw (le-leb _ _ (c .before .before .before .before .before .loop .inv .1 .0)) (c .before .before .write-row .ensures)) (c .before .before .write-row .kept .1 .1 .1 .1 .0)))
+loop-again c = (omega arith, (omega arith, put-more (c .before .before .before .before .before .loop .inv .1 .1) (le-leb _ _ (c .before .before .before .before .before .loop .inv .1 .0)) (c .before .before .write-row .ensures)))
 
 same-length : tie.Need-same-length Inv-loop μ-loop
-same-length c = c .before .loop .inv .1 .1 .long
+same-length c = put-long (c .before .loop .inv .1 .1)
 
 returns : tie.Need-returns Inv-loop μ-loop
 returns c = put-done (c .before .loop .inv .1 .1) (omega arith)

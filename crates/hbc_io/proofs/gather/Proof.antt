@@ -5,11 +5,12 @@ use mathlib.Core.Path.{_≡_}
 use native.Mathlib.Omega.{arith}
 use borrow.Author.Needs.{needs}
 use Rattle.hbc_bits.specs.Bits.{leAt}
-use Rattle.hbc_bits.specs.Laws.{Bytes}
+use Rattle.hbc_bits.proofs.Laws.{Bytes}
 use Rattle.hbc_io.proofs.Plains.{le-turn, le-room}
 use Rattle.hbc_io.proofs.gather.Statement.{statement}
 use Rattle.hbc_io.proofs.gather.Tie as tie
 
+-- v is the number of the bytes from k up, those below it still to come in
 abbrev Inv-loop : tie.InvT-loop
 Inv-loop s at width v₀ k₀ v k = (k ≤ width) × (v ≡ leAt s (at + k) (width - k))
 

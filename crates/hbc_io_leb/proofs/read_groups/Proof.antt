@@ -12,6 +12,7 @@ use borrow.Author.Needs.{needs}
 use Rattle.hbc_io_leb.proofs.read_groups.Statement.{statement}
 use Rattle.hbc_io_leb.proofs.read_groups.Tie as tie
 
+-- the k bytes looked at all say that another follows, and v is the low 64 bits of their groups
 abbrev Inv-loop : tie.InvT-loop
 Inv-loop s at first most v₀ k₀ v k = (k ≤ most) × (going (drop at s) ≡ k + going (drop (at + k) s)) × (v ≡ groups (take k (drop at s)) % 2 ^ 64)
 

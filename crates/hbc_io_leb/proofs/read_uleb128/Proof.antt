@@ -1,6 +1,6 @@
 use mathlib.Core.Path.{sym}
 use Rattle.hbc_io.proofs.Reading.{found}
-use Rattle.hbc_io_leb.specs.Groups.{ofGroups}
+use Rattle.hbc_io_leb.specs.Private.{saysGroups}
 use Rattle.hbc_io_leb.specs.Answers.{ulebOf}
 use Rattle.hbc_io_leb.proofs.Numbers.{unsigned-read, not-read}
 use borrow.Author.Needs.{needs}
@@ -17,10 +17,10 @@ enum-known-r : tie.Need-enum-known-r
 enum-known-r c = search needs
 
 returns : tie.Need-returns
-returns c = sym (unsigned-read _ _ _ _ (found ofGroups (c .before .before .before .read-groups .ensures) (c .before .g .given .1)))
+returns c = sym (unsigned-read _ _ _ _ (found saysGroups (c .before .before .before .read-groups .ensures) (c .before .g .given .1)))
 
 returns-2 : tie.Need-returns-2
-returns-2 c = sym (not-read ulebOf _ _ (found ofGroups (c .before .before .before .read-groups .ensures) (c .before .r .given .1)))
+returns-2 c = sym (not-read ulebOf _ _ (found saysGroups (c .before .before .before .read-groups .ensures) (c .before .r .given .1)))
 
 pub read-uleb128-spec : {M : Type 1} → statement M
 read-uleb128-spec =

@@ -1,10 +1,11 @@
-use Rattle.hbc_parsing_handlers.specs.Laws.{Counted, counted-first, counted-more, counted-done}
+use Rattle.hbc_parsing_handlers.proofs.Laws.{Counted, counted-first, counted-more, counted-done}
 use Prim.Native.Nat.{_-_, _≤_}
 use native.Mathlib.Omega.{arith}
 use borrow.Author.Needs.{needs}
 use Rattle.hbc_parsing_handlers.proofs.count_all.Statement.{statement}
 use Rattle.hbc_parsing_handlers.proofs.count_all.Tie as tie
 
+-- at its head the sum counts the handlers of functions 0 to i - 1
 abbrev Inv-loop : tie.InvT-loop
 Inv-loop file functions n sum₀ i₀ sum i = (i ≤ n) × Counted file functions i sum
 

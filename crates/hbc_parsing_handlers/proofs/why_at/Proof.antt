@@ -1,6 +1,9 @@
-use mathlib.Core.Path.{refl}
-use Rattle.hbc_parsing_handlers.specs.Laws.{flag-clear, info-zero, info-past, at-table, no-room, rounds-past}
-use Rattle.hbc_io.specs.Answers.{ofMoved}
+use mathlib.Core.Path.{refl, ap, _∙_}
+use borrow.Author.Tests.{eq-eqb, ne-eqb, le-leb, lt-leb}
+use Rattle.hbc_rows.proofs.Laws.{test-eq, test-ne}
+use Rattle.hbc_parsing_handlers.specs.Why.{tableAt, whyAt}
+use Rattle.hbc_parsing_handlers.proofs.Laws.{is-below, is-chosen, not-chosen, rounds-past}
+use Rattle.hbc_io.specs.Answers.{saysMoved}
 use Rattle.hbc_io.proofs.Reading.{found}
 use Rattle.hbc_io.proofs.Aligns.{aligned}
 use native.Mathlib.Omega.{arith}
@@ -12,13 +15,21 @@ field-of-requires : tie.Need-field-of-requires
 field-of-requires c κs = search needs
 
 returns : tie.Need-returns
-returns c = flag-clear _ _ _ (c .before .field-of .ensures) (omega arith)
+unfolding whyAt
+returns c = is-chosen _ _ _ (test-eq (c .before .field-of .ensures) (c .if1 .taken)) refl
 
 returns-2 : tie.Need-returns-2
-returns-2 c = info-zero _ _ _ (c .before .before .field-of .ensures) (c .before .if1 .left) (omega arith)
+unfolding whyAt
+returns-2 c =
+    not-chosen _ _ _ (test-ne (c .before .before .field-of .ensures) (c .before .if1 .left))
+    (is-chosen _ _ _ (eq-eqb _ _ (c .if2 .taken)) refl)
 
 returns-3 : tie.Need-returns-3
-returns-3 c = info-past _ _ _ (c .before .before .before .field-of .ensures) (c .before .before .if1 .left) (omega arith) (omega arith)
+unfolding whyAt
+returns-3 c =
+    not-chosen _ _ _ (test-ne (c .before .before .before .field-of .ensures) (c .before .before .if1 .left))
+    (not-chosen _ _ _ (ne-eqb _ _ (c .before .if2 .left))
+    (is-chosen _ _ _ (le-leb _ _ (c .if3 .taken)) refl))
 
 align-requires : tie.Need-align-requires
 align-requires c κs = search needs
@@ -27,16 +38,29 @@ enum-known-c : tie.Need-enum-known-c
 enum-known-c c = search needs
 
 table-at-requires : tie.Need-table-at-requires
-table-at-requires c κs = (aligned _ _ _ _ (found ofMoved (c .before .before .before .align .ensures) (c .before .c .given .1)) .1, omega arith)
+table-at-requires c κs = aligned _ _ _ _ (found saysMoved (c .before .before .before .align .ensures) (c .before .c .given .1)) .1
 
 enum-told : tie.Need-enum-told
 enum-told c = search needs
 
 returns-4 : tie.Need-returns-4
-returns-4 c = at-table _ _ _ (c .before .before .before .before .before .before .before .before .field-of .ensures) (c .before .before .before .before .before .before .before .if1 .left) (omega arith) (omega arith) (aligned _ _ _ _ (found ofMoved (c .before .before .before .before .align .ensures) (c .before .before .c .given .1)) .0) (c .table-at .ensures)
+unfolding whyAt
+returns-4 c =
+    let from = c .before .before .before .before in
+    not-chosen _ _ _ (test-ne (from .before .before .before .before .field-of .ensures) (from .before .before .before .if1 .left))
+    (not-chosen _ _ _ (ne-eqb _ _ (from .before .before .if2 .left))
+    (not-chosen _ _ _ (lt-leb _ _ (from .before .if3 .left))
+    (c .table-at .ensures ∙ ap (tableAt _) (aligned _ _ _ _ (found saysMoved (from .align .ensures) (c .before .before .c .given .1)) .0))))
 
 returns-5 : tie.Need-returns-5
-returns-5 c = at-table _ _ _ (c .before .before .before .before .before .before .field-of .ensures) (c .before .before .before .before .before .if1 .left) (omega arith) (omega arith) refl (no-room _ _ (omega (arith, rounds-past _ _ _ _ _ (omega arith) (omega arith) (omega arith) (found ofMoved (c .before .before .align .ensures) (c .enum-told .given .1)))))
+unfolding whyAt tableAt
+returns-5 c =
+    let from = c .before .before in
+    let past = rounds-past _ _ _ _ _ (omega arith) (omega arith) (omega arith) (found saysMoved (from .align .ensures) (c .enum-told .given .1)) in
+    not-chosen _ _ _ (test-ne (from .before .before .before .before .field-of .ensures) (from .before .before .before .if1 .left))
+    (not-chosen _ _ _ (ne-eqb _ _ (from .before .before .if2 .left))
+    (not-chosen _ _ _ (lt-leb _ _ (from .before .if3 .left))
+    (is-below _ _ _ _ (omega (arith, past)) refl)))
 
 pub why-at-spec : {M : Type 1} → statement M
 why-at-spec =

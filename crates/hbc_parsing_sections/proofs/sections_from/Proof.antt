@@ -1,5 +1,5 @@
 use Rattle.hbc_io.proofs.Reading.{found}
-use Rattle.hbc_parsing_sections.specs.Answers.{ofSection, ofSources}
+use Rattle.hbc_parsing_sections.specs.Private.{saysSection, saysSources}
 use Rattle.hbc_parsing_sections.specs.Sections.{sectionsFrom}
 use borrow.Author.Needs.{needs}
 use Rattle.hbc_parsing_sections.proofs.sections_from.Statement.{statement}
@@ -46,23 +46,55 @@ remaining-requires c κs = search needs
 
 returns : tie.Need-returns
 unfolding sectionsFrom
-returns c = rw (found ofSection (c .before .before .before .pairs-at .ensures) (c .before .r .given .1))
+returns c = rw (found saysSection (c .before .before .before .pairs-at .ensures) (c .before .r .given .1))
 
 returns-2 : tie.Need-returns-2
 unfolding sectionsFrom
-returns-2 c = rw (found ofSection (c .before .before .before .before .before .before .before .pairs-at .ensures) (c .before .before .before .before .before .a .given .1), found ofSection (c .before .before .before .section-at .ensures) (c .before .r2 .given .1))
+returns-2 c =
+    let a = c .before .before .before .before .before in
+    rw (
+      found saysSection (a .before .before .pairs-at .ensures) (a .a .given .1),
+      found saysSection (c .before .before .before .section-at .ensures) (c .before .r2 .given .1),
+    )
 
 returns-3 : tie.Need-returns-3
 unfolding sectionsFrom
-returns-3 c = rw (found ofSection (c .before .before .before .before .before .before .before .before .before .before .before .pairs-at .ensures) (c .before .before .before .before .before .before .before .before .before .a .given .1), found ofSection (c .before .before .before .before .before .before .before .section-at .ensures) (c .before .before .before .before .before .b .given .1), found ofSection (c .before .before .before .pairs-at2 .ensures) (c .before .r3 .given .1))
+returns-3 c =
+    let b = c .before .before .before .before .before in
+    let a = b .before .before .before .before in
+    rw (
+      found saysSection (a .before .before .pairs-at .ensures) (a .a .given .1),
+      found saysSection (b .before .before .section-at .ensures) (b .b .given .1),
+      found saysSection (c .before .before .before .pairs-at2 .ensures) (c .before .r3 .given .1),
+    )
 
 returns-4 : tie.Need-returns-4
 unfolding sectionsFrom
-returns-4 c = rw (found ofSection (c .before .before .before .before .before .before .before .before .before .before .before .before .before .before .before .pairs-at .ensures) (c .before .before .before .before .before .before .before .before .before .before .before .before .before .a .given .1), found ofSection (c .before .before .before .before .before .before .before .before .before .before .before .section-at .ensures) (c .before .before .before .before .before .before .before .before .before .b .given .1), found ofSection (c .before .before .before .before .before .before .before .pairs-at2 .ensures) (c .before .before .before .before .before .d .given .1), found ofSources (c .before .before .before .sources-at .ensures) (c .before .r4 .given .1))
+returns-4 c =
+    let d = c .before .before .before .before .before in
+    let b = d .before .before .before .before in
+    let a = b .before .before .before .before in
+    rw (
+      found saysSection (a .before .before .pairs-at .ensures) (a .a .given .1),
+      found saysSection (b .before .before .section-at .ensures) (b .b .given .1),
+      found saysSection (d .before .before .pairs-at2 .ensures) (d .d .given .1),
+      found saysSources (c .before .before .before .sources-at .ensures) (c .before .r4 .given .1),
+    )
 
 returns-5 : tie.Need-returns-5
 unfolding sectionsFrom
-returns-5 c = rw (found ofSection (c .before .before .before .before .before .before .before .before .before .before .before .before .before .before .before .before .pairs-at .ensures) (c .before .before .before .before .before .before .before .before .before .before .before .before .before .before .a .given .1), found ofSection (c .before .before .before .before .before .before .before .before .before .before .before .before .section-at .ensures) (c .before .before .before .before .before .before .before .before .before .before .b .given .1), found ofSection (c .before .before .before .before .before .before .before .before .pairs-at2 .ensures) (c .before .before .before .before .before .before .d .given .1), found ofSources (c .before .before .before .before .sources-at .ensures) (c .before .before .e .given .1), c .remaining .ensures)
+returns-5 c =
+    let e = c .before .before in
+    let d = e .before .before .before .before in
+    let b = d .before .before .before .before in
+    let a = b .before .before .before .before in
+    rw (
+      found saysSection (a .before .before .pairs-at .ensures) (a .a .given .1),
+      found saysSection (b .before .before .section-at .ensures) (b .b .given .1),
+      found saysSection (d .before .before .pairs-at2 .ensures) (d .d .given .1),
+      found saysSources (e .before .before .sources-at .ensures) (e .e .given .1),
+      c .remaining .ensures,
+    )
 
 pub sections-from-spec : {M : Type 1} → statement M
 sections-from-spec =

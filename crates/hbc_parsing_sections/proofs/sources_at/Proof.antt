@@ -1,7 +1,7 @@
 use mathlib.Core.Path.{refl}
-use Rattle.hbc_parsing_sections.specs.Laws.{is-absent}
+use Rattle.hbc_parsing_sections.proofs.Laws.{is-absent}
 use Rattle.hbc_io.proofs.Reading.{found}
-use Rattle.hbc_parsing_sections.specs.Answers.{ofSection}
+use Rattle.hbc_parsing_sections.specs.Private.{saysSection}
 use Rattle.hbc_parsing_sections.specs.Sections.{sourcesAt}
 use borrow.Author.Needs.{needs}
 use Rattle.hbc_parsing_sections.proofs.sources_at.Statement.{statement}
@@ -18,11 +18,11 @@ enum-known-s c = search needs
 
 returns : tie.Need-returns
 unfolding sourcesAt
-returns c = rw (c .before .before .before .before .if1 .taken, found ofSection (c .before .before .before .pairs-at .ensures) (c .before .r .given .1))
+returns c = rw (c .before .before .before .before .if1 .taken, found saysSection (c .before .before .before .pairs-at .ensures) (c .before .r .given .1))
 
 returns-2 : tie.Need-returns-2
 unfolding sourcesAt
-returns-2 c = rw (c .before .before .before .before .if1 .taken, found ofSection (c .before .before .before .pairs-at .ensures) (c .before .s .given .1))
+returns-2 c = rw (c .before .before .before .before .if1 .taken, found saysSection (c .before .before .before .pairs-at .ensures) (c .before .s .given .1))
 
 returns-3 : tie.Need-returns-3
 returns-3 c = is-absent _ _ _ (c .if1 .left) refl

@@ -1,4 +1,4 @@
-use Rattle.hbc_io.specs.Answers.{ofMoved}
+use Rattle.hbc_io.specs.Answers.{saysMoved}
 use Rattle.hbc_io.proofs.Reading.{found}
 use Rattle.hbc_parsing_sections.specs.Sections.{sectionsAt}
 use borrow.Author.Needs.{needs}
@@ -22,11 +22,11 @@ sections-from-requires c κs = search needs
 
 returns : tie.Need-returns
 unfolding sectionsAt
-returns c = rw (← c .before .before .before .before .first .ensures, found ofMoved (c .before .before .before .seek .ensures) (c .before .r .given .1))
+returns c = rw (← c .before .before .before .before .first .ensures, found saysMoved (c .before .before .before .seek .ensures) (c .before .r .given .1))
 
 returns-2 : tie.Need-returns-2
 unfolding sectionsAt
-returns-2 c = rw (← c .before .before .before .before .before .first .ensures, found ofMoved (c .before .before .before .before .seek .ensures) (c .before .before .c .given .1)) (c .sections-from .ensures)
+returns-2 c = rw (← c .before .before .before .before .before .first .ensures, found saysMoved (c .before .before .before .before .seek .ensures) (c .before .before .c .given .1)) (c .sections-from .ensures)
 
 pub trailing-sections-spec : {M : Type 1} → statement M
 trailing-sections-spec =

@@ -1,6 +1,6 @@
 use mathlib.Core.Path.{_≡_, sym, ap}
 use Prim.Native.Nat.{ℕ}
-use Rattle.hbc_io.specs.Answers.{ofMoved}
+use Rattle.hbc_io.specs.Answers.{saysMoved}
 use Rattle.hbc_io.specs.Outcome.{Outcome, refused, andThen}
 use Rattle.hbc_io.specs.declared.Cursor.{Cursor}
 use Rattle.hbc_io.specs.declared.Refusal.{Refusal}
@@ -10,8 +10,8 @@ use borrow.Author.Needs.{needs}
 use Rattle.hbc_reader.proofs.joined.Statement.{statement}
 use Rattle.hbc_reader.proofs.joined.Tie as tie
 
-stays-refused : (m : Moved) (w : Refusal) (n : Cursor) (o : Outcome ℕ) → m ≡ moved.Refused w n → refused w n ≡ andThen (ofMoved m) (λ _ _. o)
-stays-refused m w n o e = sym (ap (λ (x : Moved). andThen (ofMoved x) (λ _ _. o)) e)
+stays-refused : (m : Moved) (w : Refusal) (n : Cursor) (o : Outcome ℕ) → m ≡ moved.Refused w n → refused w n ≡ andThen (saysMoved m) (λ _ _. o)
+stays-refused m w n o e = sym (ap (λ (x : Moved). andThen (saysMoved x) (λ _ _. o)) e)
 
 enum-told : tie.Need-enum-told
 enum-told c = search needs

@@ -44,7 +44,7 @@ use denote.Triple.Walked.{says, Stays, stay-none-slice, stay-none, walkOf, goes-
 use denote.Exit.{yes}
 use Rattle.hbc_io.specs.Outcome.{Outcome, got, refused, cursorAt, andThen}
 use Rattle.hbc_io.specs.Plain.{plainAt, seekTo}
-use Rattle.hbc_io.specs.Answers.{ofU32, ofMoved}
+use Rattle.hbc_io.specs.Answers.{saysU32, saysMoved}
 use Rattle.hbc_io.specs.declared.Cursor.{Cursor}
 use Rattle.hbc_io.specs.declared.Moved.{Moved}
 use Rattle.hbc_io.specs.declared.ReadU32.{ReadU32}
@@ -86,17 +86,17 @@ then-is (got v n) f = refl
 then-is (refused w n) f = refl
 
 abbrev Seeks : ℕ → ByteReader → Moved → ByteReader → Type 0
-Seeks to r m d = Reads (λ s c. seekTo s c to) r (ofMoved m) d
+Seeks to r m d = Reads (λ s c. seekTo s c to) r (saysMoved m) d
 
 abbrev Words : ByteReader → ReadU32 → ByteReader → Type 0
-Words d t d′ = Reads (plainAt 4) d (ofU32 t) d′
+Words d t d′ = Reads (plainAt 4) d (saysU32 t) d′
 
-follows : (s : RefT (List ℕ)) (to : ℕ) (r d d′ : ByteReader) (m : Moved) (t y : ReadU32) → r ≡ fresh s → Seeks to r m d → Words d t d′ → ofU32 y ≡ andThen (ofMoved m) (λ _ _. ofU32 t) → ofU32 y ≡ soughtU32 (now s) to
+follows : (s : RefT (List ℕ)) (to : ℕ) (r d d′ : ByteReader) (m : Moved) (t y : ReadU32) → r ≡ fresh s → Seeks to r m d → Words d t d′ → saysU32 y ≡ andThen (saysMoved m) (λ _ _. saysU32 t) → saysU32 y ≡ soughtU32 (now s) to
 follows s to r d d′ m t y e e₁ e₂ e₃ =
-    let m-is : ofMoved m ≡ seekTo (now s) (cursorAt 0) to = e₁ .says ∙ ap (λ (x : ByteReader). seekTo (bytesOf x) (cursorOf x) to) e in
+    let m-is : saysMoved m ≡ seekTo (now s) (cursorAt 0) to = e₁ .says ∙ ap (λ (x : ByteReader). seekTo (bytesOf x) (cursorOf x) to) e in
     let d-is : d ≡ movedTo (fresh s) (after (seekTo (now s) (cursorAt 0) to)) = e₁ .leaves ∙ ap (λ (x : ByteReader). movedTo x (after (seekTo (bytesOf x) (cursorOf x) to))) e in
-    let t-is : ofU32 t ≡ plainAt 4 (now s) (cursorAt (after (seekTo (now s) (cursorAt 0) to))) = e₂ .says ∙ ap (λ (x : ByteReader). plainAt 4 (bytesOf x) (cursorOf x)) d-is in
-    e₃ ∙ (ap (λ (o : Outcome (Unit {0})). andThen o (λ _ _. ofU32 t)) m-is ∙ (ap (λ (o : Outcome ℕ). andThen (seekTo (now s) (cursorAt 0) to) (λ _ _. o)) t-is ∙ then-is (seekTo (now s) (cursorAt 0) to) (plainAt 4 (now s))))
+    let t-is : saysU32 t ≡ plainAt 4 (now s) (cursorAt (after (seekTo (now s) (cursorAt 0) to))) = e₂ .says ∙ ap (λ (x : ByteReader). plainAt 4 (bytesOf x) (cursorOf x)) d-is in
+    e₃ ∙ (ap (λ (o : Outcome (Unit {0})). andThen o (λ _ _. saysU32 t)) m-is ∙ (ap (λ (o : Outcome ℕ). andThen (seekTo (now s) (cursorAt 0) to) (λ _ _. o)) t-is ∙ then-is (seekTo (now s) (cursorAt 0) to) (plainAt 4 (now s))))
 
 -- ---- the walk
 
@@ -198,12 +198,12 @@ module _ {M : Type 1} (𝓤 : URA M) (H : Heap 𝓤) (A : Atoms 𝓤) (W : Given
       qed W (‵ (G.the-row .own m (um ∷ [])) ∷ ‵ (S.the-row .own t (ut ∷ [])) ∷ []) ∵ nothing ! $ move ! (2 ∷ 0 ∷ []) $ fjoin ! $ move ! (1 ∷ 0 ∷ []) $ fjoin ! $ nothing ! $ join ! $ frame ! $ done !
 
   abbrev Ends : Moved → ReadU32 → ReadU32 → Type 0
-  Ends m t y = ofU32 y ≡ andThen (ofMoved m) (λ _ _. ofU32 t)
+  Ends m t y = saysU32 y ≡ andThen (saysMoved m) (λ _ _. saysU32 t)
 
   joined-said : (m : Moved) (t y : ReadU32) → ent 𝓤 (ensured 𝓤 H A joined.ended (joined.clauses 𝓤 H A at-mem run) tt (m, (t, tt)) tt y) (fact 𝓤 (Ends m t y))
   joined-said m t y = exE 𝓤 _ (λ ws. snd∗ 𝓤 (sem 𝓤 H A (lasts joined.ended tt (m, (t, tt)) ws)) (fact 𝓤 (Ends m t y)))
 
-  exits : (y : ReadU32) (u : Val) → ofU32 y ≡ soughtU32 (now s) n → ent 𝓤 (⋆ 𝓤 H A (‵ (S.the-row .own y (u ∷ [])) ∷ ‵ (flft κ q) ∷ ‵ Own ∷ [])) (Post u)
+  exits : (y : ReadU32) (u : Val) → saysU32 y ≡ soughtU32 (now s) n → ent 𝓤 (⋆ 𝓤 H A (‵ (S.the-row .own y (u ∷ [])) ∷ ‵ (flft κ q) ∷ ‵ Own ∷ [])) (Post u)
   exits y u e =
       qed W (‵ (S.the-row .own y (u ∷ [])) ∷ ‵ (flft κ q) ∷ ‵ Own ∷ []) ∵
       suffices ! _ (ends-at 𝓤 H A its.ended stayed (its.clauses 𝓤 H A at-mem run) W bound u y (tt, (tt, tt)) (tt, (tt, tt))) $ says ! e $

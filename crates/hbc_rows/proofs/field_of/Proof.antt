@@ -1,4 +1,4 @@
-use Rattle.hbc_rows.specs.Laws.{field-fits}
+use Rattle.hbc_rows.proofs.Laws.{field-fits}
 use borrow.Author.Needs.{needs}
 use Rattle.hbc_rows.proofs.field_of.Statement.{statement}
 use Rattle.hbc_rows.proofs.field_of.Tie as tie

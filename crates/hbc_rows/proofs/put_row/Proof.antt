@@ -1,74 +1,32 @@
-use Rattle.hbc_rows.specs.Rows.{putRow}
-use lib.ListN.{length-set}
-use borrow.Author.Tests.{lt-ltb, le-ltb}
+use mathlib.Core.Path.{_∙_}
 use native.Mathlib.Omega.{arith}
+use denote.Ref.{now}
+use Rattle.hbc_rows.proofs.RowsAt.{row-fits, put-none, put-in, put-out}
 use borrow.Author.Needs.{needs}
 use Rattle.hbc_rows.proofs.put_row.Statement.{statement}
 use Rattle.hbc_rows.proofs.put_row.Tie as tie
 
-mul-at : tie.Need-mul-at
-mul-at c = search needs
+returns : tie.Need-returns
+returns c = let a = c .before .before .before .args in put-none (now (a .t)) (a .k) (now (a .row)) (c .if1 .taken)
 
-mul-t : tie.Need-mul-t
-mul-t c = search needs
+div-if2 : tie.Need-div-if2
+div-if2 c = search needs
 
-slice-write-t : tie.Need-slice-write-t
-slice-write-t c = search needs
+mul-store : tie.Need-mul-store
+mul-store c = let f = row-fits _ _ _ (c .before .if2 .taken) in omega arith
 
-add-t : tie.Need-add-t
-add-t c = search needs
-
-mul-t-2 : tie.Need-mul-t-2
-mul-t-2 c = search needs
-
-slice-write-t-2 : tie.Need-slice-write-t-2
-slice-write-t-2 c = simp length-set (omega arith)
-
-add-t-2 : tie.Need-add-t-2
-add-t-2 c = search needs
-
-mul-t-3 : tie.Need-mul-t-3
-mul-t-3 c = search needs
-
-slice-write-t-3 : tie.Need-slice-write-t-3
-slice-write-t-3 c = simp length-set (omega arith)
-
-add-t-3 : tie.Need-add-t-3
-add-t-3 c = search needs
-
-mul-t-4 : tie.Need-mul-t-4
-mul-t-4 c = search needs
-
-slice-write-t-4 : tie.Need-slice-write-t-4
-slice-write-t-4 c = simp length-set (omega arith)
+store-requires : tie.Need-store-requires
+store-requires c κs = row-fits _ _ _ (c .before .if2 .taken)
 
 same-length : tie.Need-same-length
 same-length c = search needs
 
-returns : tie.Need-returns
-unfolding putRow
-returns c = rw (lt-ltb _ _ (c .if1 .taken))
-
 returns-2 : tie.Need-returns-2
-unfolding putRow
-returns-2 c = rw (le-ltb _ _ (c .if1 .left))
+returns-2 c = c .before .before .store .ensures ∙ put-in _ _ _ _ (c .before .before .before .before .if2 .taken)
+
+returns-3 : tie.Need-returns-3
+returns-3 c = put-out _ _ _ _ (omega arith) (c .if2 .left)
 
 pub put-row-spec : {M : Type 1} → statement M
 put-row-spec =
-    tie.close
-    (tie.spec
-    mul-at
-    mul-t
-    slice-write-t
-    add-t
-    mul-t-2
-    slice-write-t-2
-    add-t-2
-    mul-t-3
-    slice-write-t-3
-    add-t-3
-    mul-t-4
-    slice-write-t-4
-    same-length
-    returns
-    returns-2)
+    tie.close (tie.spec returns div-if2 mul-store store-requires same-length returns-2 returns-3)

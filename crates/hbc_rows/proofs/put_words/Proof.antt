@@ -8,6 +8,7 @@ use Rattle.hbc_rows.proofs.Words.{Going, going-first, going-on, going-f
 use Rattle.hbc_rows.proofs.put_words.Statement.{statement}
 use Rattle.hbc_rows.proofs.put_words.Tie as tie
 
+-- the words before i are stored: what is left of the row, put over the table as it is, makes the table as it is to be
 abbrev Inv-loop : tie.InvT-loop
 Inv-loop t₀ at row i₀ t i = Going t₀ at row i t × (i ≤ length row)
 

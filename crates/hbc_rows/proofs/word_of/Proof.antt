@@ -1,4 +1,4 @@
-use Rattle.hbc_rows.specs.Laws.{entry-in, entry-none}
+use Rattle.hbc_rows.proofs.Laws.{entry-in, entry-none}
 use borrow.Author.Needs.{needs}
 use Rattle.hbc_rows.proofs.word_of.Statement.{statement}
 use Rattle.hbc_rows.proofs.word_of.Tie as tie

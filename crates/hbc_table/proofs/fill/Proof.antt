@@ -1,5 +1,5 @@
 use Rattle.hbc_table.specs.Table.{wordsFrom}
-use Rattle.hbc_rows.specs.Laws.{filled-more, filled-length, filled-done}
+use Rattle.hbc_rows.proofs.Laws.{filled-more, filled-length, filled-done}
 use Rattle.hbc_rows.specs.Rows.{filled}
 use Prim.Native.Nat.{_≤_, _-_}
 use mathlib.Core.Path.{_≡_, refl}
@@ -8,6 +8,7 @@ use borrow.Author.Needs.{needs}
 use Rattle.hbc_table.proofs.fill.Statement.{statement}
 use Rattle.hbc_table.proofs.fill.Tie as tie
 
+-- so many words are in front, the rest of the table is as it was lent
 abbrev Inv-loop : tie.InvT-loop
 Inv-loop s at n table₀ i₀ table i = (i ≤ n) × (table ≡ filled (wordsFrom s at) i table₀)
 

@@ -1,4 +1,7 @@
-use Rattle.hbc_table.specs.Laws.{is-long, is-past, is-small, is-cut, is-read, div-fits}
+use mathlib.Core.Path.{refl}
+use Rattle.hbc_io.proofs.Exits.{stop, past, given}
+use Rattle.hbc_table.specs.Table.{wordsAt}
+use Rattle.hbc_table.proofs.Laws.{div-fits}
 use native.Mathlib.Omega.{arith}
 use borrow.Author.Needs.{needs}
 use Rattle.hbc_table.proofs.read_words.Statement.{statement}
@@ -8,19 +11,22 @@ refuse-requires : tie.Need-refuse-requires
 refuse-requires c κs = search needs
 
 returns : tie.Need-returns
-returns c = is-long (omega arith) (c .refuse .ensures)
+unfolding wordsAt
+returns c = stop _ _ _ _ (omega arith) refl (rw (c .refuse .ensures))
 
 refuse-requires-2 : tie.Need-refuse-requires-2
 refuse-requires-2 c κs = search needs
 
 returns-2 : tie.Need-returns-2
-returns-2 c = is-past (omega arith) (omega arith) (c .refuse2 .ensures)
+unfolding wordsAt
+returns-2 c = past _ _ _ _ (omega arith) (stop _ _ _ _ (omega arith) refl (rw (c .refuse2 .ensures)))
 
 refuse-requires-3 : tie.Need-refuse-requires-3
 refuse-requires-3 c κs = search needs
 
 returns-3 : tie.Need-returns-3
-returns-3 c = is-small (omega arith) (omega arith) (omega arith) (c .refuse3 .ensures)
+unfolding wordsAt
+returns-3 c = past _ _ _ _ (omega arith) (past _ _ _ _ (omega arith) (stop _ _ _ _ (omega arith) refl (rw (c .refuse3 .ensures))))
 
 sub-left : tie.Need-sub-left
 sub-left c = search needs
@@ -38,7 +44,8 @@ refuse-requires-4 : tie.Need-refuse-requires-4
 refuse-requires-4 c κs = search needs
 
 returns-4 : tie.Need-returns-4
-returns-4 c = is-cut (omega arith) (omega arith) (omega arith) (omega arith) (c .refuse4 .ensures)
+unfolding wordsAt
+returns-4 c = past _ _ _ _ (omega arith) (past _ _ _ _ (omega arith) (past _ _ _ _ (omega arith) (stop _ _ _ _ (omega arith) refl (rw (c .refuse4 .ensures)))))
 
 fill-requires : tie.Need-fill-requires
 fill-requires c κs = search needs
@@ -53,7 +60,8 @@ same-length : tie.Need-same-length
 same-length c = search needs
 
 returns-5 : tie.Need-returns-5
-returns-5 c = is-read (omega arith) (omega arith) (omega arith) (omega arith) (c .before .before .fill .ensures)
+unfolding wordsAt
+returns-5 c = past _ _ _ _ (omega arith) (past _ _ _ _ (omega arith) (past _ _ _ _ (omega arith) (past _ _ _ _ (omega arith) (given refl refl (c .before .before .fill .ensures)))))
 
 pub read-words-spec : {M : Type 1} → statement M
 read-words-spec =

@@ -1,4 +1,4 @@
-use Rattle.hbc_table.specs.Laws.{word-is}
+use Rattle.hbc_table.proofs.Laws.{word-is}
 use native.Mathlib.Omega.{arith}
 use borrow.Author.Needs.{needs}
 use Rattle.hbc_table.proofs.word.Statement.{statement}

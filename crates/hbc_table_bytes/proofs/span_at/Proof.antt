@@ -1,6 +1,4 @@
-use Rattle.hbc_table_bytes.specs.StringBytes.{spanAt}
-use Rattle.hbc_rows.specs.Laws.{test-eq, test-ne}
-use borrow.Author.Tests.{lt-ltb, le-ltb}
+use Rattle.hbc_table_bytes.proofs.Laws.{span-valid, span-invalid, span-none}
 use borrow.Author.Needs.{needs}
 use Rattle.hbc_table_bytes.proofs.span_at.Statement.{statement}
 use Rattle.hbc_table_bytes.proofs.span_at.Tie as tie
@@ -14,32 +12,33 @@ add-word-of c = search needs
 word-of-requires : tie.Need-word-of-requires
 word-of-requires c κs = search needs
 
+add-word-of-2 : tie.Need-add-word-of-2
+add-word-of-2 c = search needs
+
 word-of-requires-2 : tie.Need-word-of-requires-2
 word-of-requires-2 c κs = search needs
 
-cast-t11 : tie.Need-cast-t11
-cast-t11 c = search needs
+cast-t12 : tie.Need-cast-t12
+cast-t12 c = search needs
 
-add-word-of-2 : tie.Need-add-word-of-2
-add-word-of-2 c = search needs
+add-word-of-3 : tie.Need-add-word-of-3
+add-word-of-3 c = search needs
 
 word-of-requires-3 : tie.Need-word-of-requires-3
 word-of-requires-3 c κs = search needs
 
-cast-t14 : tie.Need-cast-t14
-cast-t14 c = search needs
+cast-t15 : tie.Need-cast-t15
+cast-t15 c = search needs
 
 returns : tie.Need-returns
-unfolding spanAt
-returns c = rw (lt-ltb _ _ (c .before .before .before .before .if1 .taken), test-eq (c .before .before .before .word-of .ensures) (c .before .before .if2 .taken), ← c .before .word-of2 .ensures, ← c .word-of3 .ensures)
+returns c =
+    span-valid _ _ (c .before .before .before .before .if1 .taken) (c .before .before .before .word-of .ensures) (c .before .before .if2 .taken) (c .before .word-of2 .ensures) (c .word-of3 .ensures)
 
 returns-2 : tie.Need-returns-2
-unfolding spanAt
-returns-2 c = rw (lt-ltb _ _ (c .before .before .if1 .taken), test-ne (c .before .word-of .ensures) (c .if2 .left))
+returns-2 c = span-invalid _ _ (c .before .before .if1 .taken) (c .before .word-of .ensures) (c .if2 .left)
 
 returns-3 : tie.Need-returns-3
-unfolding spanAt
-returns-3 c = rw (le-ltb _ _ (c .if1 .left))
+returns-3 c = span-none _ _ (c .if1 .left)
 
 pub span-at-spec : {M : Type 1} → statement M
 span-at-spec =
@@ -48,11 +47,12 @@ span-at-spec =
     mul-at
     add-word-of
     word-of-requires
-    word-of-requires-2
-    cast-t11
     add-word-of-2
+    word-of-requires-2
+    cast-t12
+    add-word-of-3
     word-of-requires-3
-    cast-t14
+    cast-t15
     returns
     returns-2
     returns-3)

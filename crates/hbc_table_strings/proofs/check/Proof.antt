@@ -1,11 +1,11 @@
 use borrow.Author.Needs.{needs}
 use Prim.Native.Nat.{_≤_, _-_}
-use mathlib.Core.Path.{_∙_}
-use Rattle.hbc_table_strings.specs.Laws.{Clear, clear-first, clear-stops, clear-goes, clear-done}
+use Rattle.hbc_table_strings.proofs.Laws.{Clear, clear-first, clear-stops, clear-goes, clear-done}
 use native.Mathlib.Omega.{arith}
 use Rattle.hbc_table_strings.proofs.check.Statement.{statement}
 use Rattle.hbc_table_strings.proofs.check.Tie as tie
 
+-- before string i: none of the i strings before it lacks its pair, and so many pairs are needed for them
 abbrev Inv-loop : tie.InvT-loop
 Inv-loop n small pairs needed₀ i₀ needed i = (i ≤ n) × Clear small pairs i needed
 
@@ -28,7 +28,10 @@ refuse-requires : tie.Need-refuse-requires Inv-loop μ-loop
 refuse-requires c κs = search needs
 
 returns : tie.Need-returns Inv-loop μ-loop
-returns c = c .refuse .ensures ∙ clear-stops (c .before .before .before .before .before .loop .inv .1) (omega arith) (c .before .before .before .word-of .ensures) (c .before .before .lacks-pair .ensures) (c .before .if1 .taken)
+returns c =
+    let raw = c .before .before .before in
+    rw (c .refuse .ensures)
+    (clear-stops (raw .before .before .loop .inv .1) (omega arith) (raw .word-of .ensures) (c .before .before .lacks-pair .ensures) (c .before .if1 .taken))
 
 long-one-requires : tie.Need-long-one-requires Inv-loop μ-loop
 long-one-requires c κs = search needs
@@ -43,7 +46,10 @@ loop-less : tie.Need-loop-less Inv-loop μ-loop
 loop-less c = search needs
 
 loop-again : tie.Need-loop-again Inv-loop μ-loop
-loop-again c = (omega arith, clear-goes (c .before .before .before .before .before .loop .inv .1) (c .before .before .before .word-of .ensures) (c .before .before .lacks-pair .ensures) (c .before .if1 .left) (c .long-one .ensures .0) (c .long-one .ensures .1))
+loop-again c =
+    let raw = c .before .before .before in
+    let one = c .long-one .ensures in
+    (omega arith, clear-goes (raw .before .before .loop .inv .1) (raw .word-of .ensures) (c .before .before .lacks-pair .ensures) (c .before .if1 .left) (one .0) (one .1))
 
 returns-2 : tie.Need-returns-2 Inv-loop μ-loop
 returns-2 c = clear-done (c .before .loop .inv .1) (omega arith)

@@ -1,4 +1,6 @@
-use Rattle.hbc_table_strings.specs.Laws.{is-long, is-small, is-read, is-lacking}
+use mathlib.Core.Path.{refl, ap}
+use Rattle.hbc_io.proofs.Exits.{stop, past, given, refused}
+use Rattle.hbc_table_strings.specs.Strings.{saysDecoded, decodeAnswer}
 use native.Mathlib.Omega.{arith}
 use borrow.Author.Needs.{needs}
 use Rattle.hbc_table_strings.proofs.decode_strings.Statement.{statement}
@@ -11,13 +13,17 @@ refuse-requires : tie.Need-refuse-requires
 refuse-requires c κs = search needs
 
 returns : tie.Need-returns
-returns c = is-long (omega arith) (c .refuse .ensures)
+unfolding decodeAnswer
+returns c = stop _ _ _ _ (omega arith) refl (rw (c .refuse .ensures))
 
 refuse-requires-2 : tie.Need-refuse-requires-2
 refuse-requires-2 c κs = search needs
 
 returns-2 : tie.Need-returns-2
-returns-2 c = is-small (omega arith) (rw (← c .before .before .before .lesser .ensures .0) (c .before .if2 .taken)) (c .refuse2 .ensures)
+unfolding decodeAnswer
+returns-2 c =
+    past _ _ _ _ (omega arith)
+    (stop _ _ _ _ (rw (← c .before .before .before .lesser .ensures .0) (c .before .if2 .taken)) refl (rw (c .refuse2 .ensures)))
 
 check-requires : tie.Need-check-requires
 check-requires c κs = search needs
@@ -35,10 +41,21 @@ same-length : tie.Need-same-length
 same-length c = search needs
 
 returns-3 : tie.Need-returns-3
-returns-3 c = is-read (c .before .before .before .before .before .before .before .before .before .lesser .ensures .0) (omega arith) (omega arith) (c .before .before .before .before .before .before .check .ensures) (c .before .before .before .before .enum-told .given .1) (c .before .before .write .ensures)
+unfolding decodeAnswer
+returns-3 c =
+    let found = c .before .before .before .before .before .before in
+    let n = found .before .before .before .lesser .ensures .0 in
+    past _ _ _ _ (omega arith)
+    (past _ _ _ _ (rw (← n) (found .before .if2 .left))
+    (given (ap saysDecoded (c .before .before .before .before .enum-told .given .1)) (rw (← n) (found .check .ensures)) (rw (← n) (c .before .before .write .ensures))))
 
 returns-4 : tie.Need-returns-4
-returns-4 c = is-lacking (c .before .before .before .before .before .lesser .ensures .0) (omega arith) (omega arith) (c .before .before .check .ensures) (c .enum-told2 .given .1)
+unfolding decodeAnswer
+returns-4 c =
+    let n = c .before .before .before .before .before .lesser .ensures .0 in
+    past _ _ _ _ (omega arith)
+    (past _ _ _ _ (rw (← n) (c .before .before .before .if2 .left))
+    (refused (ap saysDecoded (c .enum-told2 .given .1)) (rw (← n) (c .before .before .check .ensures))))
 
 pub decode-strings-spec : {M : Type 1} → statement M
 decode-strings-spec =

@@ -1,10 +1,11 @@
 use borrow.Author.Needs.{needs}
 use Prim.Native.Nat.{_≤_, _-_}
-use Rattle.hbc_table_strings.specs.Laws.{Written, written-first, written-more, written-length, written-done}
+use Rattle.hbc_table_strings.proofs.Laws.{Written, written-first, written-more, written-length, written-done}
 use native.Mathlib.Omega.{arith}
 use Rattle.hbc_table_strings.proofs.write.Statement.{statement}
 use Rattle.hbc_table_strings.proofs.write.Tie as tie
 
+-- before string i: the run held and the pairs taken are those of the i strings before it, whose rows are in front of the table as it was lent
 abbrev Inv-loop : tie.InvT-loop
 Inv-loop n kinds small overflow storage rows₀ held₀ taken₀ i₀ rows held taken i = (i ≤ n) × Written kinds small overflow storage i held taken rows₀ rows
 
@@ -21,7 +22,9 @@ word-of-requires : tie.Need-word-of-requires Inv-loop μ-loop
 word-of-requires c κs = search needs
 
 moved-on-requires : tie.Need-moved-on-requires Inv-loop μ-loop
-moved-on-requires c κs = omega (arith, c .before .before .loop .inv .1 .far, c .before .loop-test .taken, c .before .before .before .before .before .before .before .before .pre .0)
+moved-on-requires c κs =
+    let turn = c .before in
+    omega (arith, turn .before .loop .inv .1 .far, turn .loop-test .taken, turn .before .before .before .before .before .before .before .pre .0)
 
 run-kind-requires : tie.Need-run-kind-requires Inv-loop μ-loop
 run-kind-requires c κs = search needs
@@ -29,8 +32,8 @@ run-kind-requires c κs = search needs
 row-with-requires : tie.Need-row-with-requires Inv-loop μ-loop
 row-with-requires c κs = search needs
 
-put-row-requires : tie.Need-put-row-requires Inv-loop μ-loop
-put-row-requires c κs = search needs
+put-string-requires : tie.Need-put-string-requires Inv-loop μ-loop
+put-string-requires c κs = search needs
 
 spent-requires : tie.Need-spent-requires Inv-loop μ-loop
 spent-requires c κs = search needs
@@ -39,16 +42,28 @@ long-one-requires : tie.Need-long-one-requires Inv-loop μ-loop
 long-one-requires c κs = search needs
 
 add-taken : tie.Need-add-taken Inv-loop μ-loop
-add-taken c = omega (arith, c .before .before .before .before .before .before .before .before .before .before .before .loop .inv .1 .few, c .before .before .before .before .before .before .before .before .before .before .loop-test .taken, c .before .before .before .before .before .before .before .before .before .before .before .before .before .before .before .before .before .pre .0, c .long-one .ensures .1)
+add-taken c =
+    let turn = c .before .before .before .before .before .before .before .before .before .before in
+    omega (arith, turn .before .loop .inv .1 .few, turn .loop-test .taken, turn .before .before .before .before .before .before .before .pre .0, c .long-one .ensures .1)
 
 add-i : tie.Need-add-i Inv-loop μ-loop
-add-i c = omega (arith, c .before .before .before .before .before .before .before .before .before .before .loop-test .taken, c .before .before .before .before .before .before .before .before .before .before .before .before .before .before .before .before .before .pre .0)
+add-i c =
+    let turn = c .before .before .before .before .before .before .before .before .before .before in
+    omega (arith, turn .loop-test .taken, turn .before .before .before .before .before .before .before .pre .0)
 
 loop-less : tie.Need-loop-less Inv-loop μ-loop
 loop-less c = search needs
 
 loop-again : tie.Need-loop-again Inv-loop μ-loop
-loop-again c = (omega arith, rw (c .before .before .before .before .put-row .ensures) (written-more (c .before .before .before .before .before .before .before .before .before .before .before .loop .inv .1) (c .before .before .before .before .before .before .before .before .before .word-of .ensures) (c .before .before .before .before .before .before .before .before .moved-on .ensures .0) (c .before .before .before .before .before .before .before .before .moved-on .ensures .1) (c .before .before .before .before .before .before .before .run-kind .ensures .0) (c .before .before .before .before .before .row-with .ensures) (c .before .spent .ensures) (c .long-one .ensures .0) (c .long-one .ensures .1)))
+loop-again c =
+    let put = c .before .before .before .before in
+    let kind = put .before .before .before in
+    let raw = kind .before .before in (
+      omega arith,
+      rw (put .put-string .ensures)
+          (written-more (raw .before .before .loop .inv .1) (raw .word-of .ensures) (kind .before .moved-on .ensures .0) (kind .before .moved-on .ensures .1)
+          (kind .run-kind .ensures .0) (put .before .row-with .ensures) (c .before .spent .ensures) (c .long-one .ensures .0) (c .long-one .ensures .1)),
+    )
 
 same-length : tie.Need-same-length Inv-loop μ-loop
 same-length c = written-length (c .before .loop .inv .1)
@@ -68,7 +83,7 @@ write-spec =
     moved-on-requires
     run-kind-requires
     row-with-requires
-    put-row-requires
+    put-string-requires
     spent-requires
     long-one-requires
     add-taken

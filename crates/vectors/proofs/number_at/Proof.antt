@@ -1,5 +1,5 @@
 use Rattle.hbc_io.proofs.Reading.{found}
-use Rattle.hbc_io_leb.specs.Answers.{ofUleb}
+use Rattle.hbc_io_leb.specs.Answers.{saysUleb}
 use Rattle.vectors.proofs.Recorded.{number-got, number-refused}
 use borrow.Author.Needs.{needs}
 use Rattle.vectors.proofs.number_at.Statement.{statement}
@@ -15,10 +15,10 @@ enum-told : tie.Need-enum-told
 enum-told c = search needs
 
 returns : tie.Need-returns
-returns c = number-got _ _ (found ofUleb (c .before .before .before .read-uleb128 .ensures) (c .before .v .given .1))
+returns c = number-got _ _ (found saysUleb (c .before .before .before .read-uleb128 .ensures) (c .before .v .given .1))
 
 returns-2 : tie.Need-returns-2
-returns-2 c = number-refused _ _ (found ofUleb (c .before .before .read-uleb128 .ensures) (c .enum-told .given .1))
+returns-2 c = number-refused _ _ (found saysUleb (c .before .before .read-uleb128 .ensures) (c .enum-told .given .1))
 
 pub number-at-spec : {M : Type 1} → statement M
 number-at-spec =

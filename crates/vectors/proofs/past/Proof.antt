@@ -1,5 +1,5 @@
 use Rattle.hbc_io.proofs.Reading.{found}
-use Rattle.hbc_io.specs.Answers.{ofSpan}
+use Rattle.hbc_io.specs.Answers.{saysSpan}
 use Rattle.vectors.proofs.Recorded.{past-got, past-refused}
 use borrow.Author.Needs.{needs}
 use Rattle.vectors.proofs.past.Statement.{statement}
@@ -15,10 +15,10 @@ enum-told : tie.Need-enum-told
 enum-told c = search needs
 
 returns : tie.Need-returns
-returns c = past-got _ _ (found ofSpan (c .before .before .before .read-length-prefixed-string .ensures) (c .before .c .given .1))
+returns c = past-got _ _ (found saysSpan (c .before .before .before .read-length-prefixed-string .ensures) (c .before .c .given .1))
 
 returns-2 : tie.Need-returns-2
-returns-2 c = past-refused _ _ (found ofSpan (c .before .before .read-length-prefixed-string .ensures) (c .enum-told .given .1))
+returns-2 c = past-refused _ _ (found saysSpan (c .before .before .read-length-prefixed-string .ensures) (c .enum-told .given .1))
 
 pub past-spec : {M : Type 1} → statement M
 past-spec =

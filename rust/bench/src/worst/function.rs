@@ -1,6 +1,8 @@
 //! The function tables.
 
+use bisquepond::function::FunctionRow;
 use bisquepond::sys::*;
+use bisquepond::Row as _;
 use harness::Random;
 use published::format::FLAG_OVERFLOWED;
 
@@ -9,7 +11,7 @@ use super::{calls, refused, row, scattered};
 use crate::function::point;
 use crate::table::Bench;
 
-const ROW: usize = 16;
+const ROW: usize = FunctionRow::WORDS;
 
 /// A layout's number and name, and the bytes of its header and its large header.
 const LAYOUTS: [(u32, &str, usize, usize); 2] = [(0, "legacy", 16, 31), (1, "modern", 12, 37)];

@@ -1,13 +1,16 @@
 //! Handlers and trailing sections.
 
+use bisquepond::function::FunctionRow;
+use bisquepond::parsing::HandlerRow;
 use bisquepond::sys::*;
+use bisquepond::Row as _;
 use published::format::FLAG_HAS_EXCEPTION_HANDLER;
 
 use super::{calls, refused, row, scattered};
 use crate::table::Bench;
 
-const FUNCTION: usize = 16;
-const ROW: usize = 4;
+const FUNCTION: usize = FunctionRow::WORDS;
+const ROW: usize = HandlerRow::WORDS;
 
 /// The most handlers that a function has.
 const MOST: usize = 1_000;

@@ -1,13 +1,15 @@
 //! The string tables.
 
 use bisquepond::sys::*;
+use bisquepond::table::StringRow;
+use bisquepond::Row as _;
 use harness::Random;
 
 use super::io::any_bytes;
 use super::{calls, refused, row, scattered};
 use crate::table::Bench;
 
-const ROW: usize = 4;
+const ROW: usize = StringRow::WORDS;
 
 pub fn rows(bench: &Bench) {
     for (name, width) in [("read_u32_table", 1), ("read_pair_table", 2)] {

@@ -1,26 +1,22 @@
 //! The groups of inputs on which the two sides of the literals are compared.
 
-mod differences;
-
+use bisquepond::sys::LIMIT;
 use harness::Random;
 
-use super::{literal, series};
-use crate::io::LIMIT;
+use super::case::{literal, series};
+use super::differences;
+use crate::case::Compared;
+use crate::inputs::random_bytes;
 use crate::lent::Reserved;
-use crate::run::{Difference, Run};
-
-type Compared = Result<(), Difference>;
+use crate::run::Run;
 
 fn one(run: &mut Run, input: &[u8], at: usize, tag: u8) -> Compared {
-    literal::Case { input, at, tag }.compare()?;
-    run.equal();
-    Ok(())
+    run.compare(&literal::Case { input, at, tag }).map(drop)
 }
 
 /// A series into tables that have just a word more than it has values.
 fn series(run: &mut Run, buffer: &[u8], offset: u32, count: u32) -> Compared {
-    let lent = count as usize + 1;
-    lent_series(run, buffer, offset, count, lent, lent)
+    lent_series(run, buffer, offset, count, [count as usize + 1; 2])
 }
 
 fn lent_series(
@@ -28,19 +24,10 @@ fn lent_series(
     buffer: &[u8],
     offset: u32,
     count: u32,
-    kinds: usize,
-    payloads: usize,
+    lent: [usize; 2],
 ) -> Compared {
-    let case = series::Case {
-        buffer,
-        offset,
-        count,
-        kinds,
-        payloads,
-    };
-    case.compare()?;
-    run.equal();
-    Ok(())
+    let case = series::series(buffer, offset, count, lent);
+    run.compare(&case).map(drop)
 }
 
 pub fn compare(run: &mut Run) -> Compared {
@@ -68,19 +55,8 @@ pub fn compare(run: &mut Run) -> Compared {
     run.group("random", random)
 }
 
-fn random_bytes(random: &mut Random, len: usize) -> Vec<u8> {
-    (0..len).map(|_| random.byte()).collect()
-}
-
 /// Cursors past any input here.
-const FAR: [usize; 6] = [
-    1 << 30,
-    1 << 32,
-    1 << 63,
-    usize::MAX - 8,
-    usize::MAX - 1,
-    usize::MAX,
-];
+const FAR: [usize; 6] = [1 << 30, 1 << 32, 1 << 63, usize::MAX - 8, usize::MAX - 1, usize::MAX];
 
 fn every_tag(run: &mut Run) -> Compared {
     let mut random = run.random(1);
@@ -270,7 +246,7 @@ fn lent_tables(run: &mut Run) -> Compared {
             for kinds in 0..=most + 1 {
                 for payloads in 0..=most + 1 {
                     for offset in [0, buffer.len() as u32 / 2, buffer.len() as u32] {
-                        lent_series(run, &buffer, offset, count as u32, kinds, payloads)?;
+                        lent_series(run, &buffer, offset, count as u32, [kinds, payloads])?;
                     }
                 }
             }
@@ -305,35 +281,16 @@ fn far_counts(run: &mut Run) -> Compared {
         buffer.extend([0xAF, 0xFF].repeat(full % 5));
         buffer.extend(random_bytes(&mut random, full));
         for offset in [0, 1, 5, buffer.len() as u32, u32::MAX] {
-            let far = [
-                1 << 28,
-                1 << 29,
-                1 << 30,
-                (1 << 31) - 1,
-                1 << 31,
-                u32::MAX - 1,
-                u32::MAX,
-            ];
+            let far = [1 << 28, 1 << 29, 1 << 30, (1 << 31) - 1, 1 << 31, u32::MAX - 1, u32::MAX];
             for count in far {
-                lent_series(run, &buffer, offset, count, 9, 9)?;
+                lent_series(run, &buffer, offset, count, [9, 9])?;
                 let Some((kinds, payloads)) = &huge else {
                     continue;
                 };
                 let fits = count as usize;
-                for [few, many] in [
-                    [fits, fits],
-                    [fits - 1, fits],
-                    [fits, fits - 1],
-                    [fits + 1, fits],
-                ] {
-                    let case = series::Case {
-                        buffer: &buffer,
-                        offset,
-                        count,
-                        kinds: few,
-                        payloads: many,
-                    };
-                    case.compare_refused(kinds, payloads)?;
+                for lent in [[fits, fits], [fits - 1, fits], [fits, fits - 1], [fits + 1, fits]] {
+                    let case = series::series(&buffer, offset, count, lent);
+                    case.compare_refused(None, (kinds, payloads))?;
                     run.equal();
                 }
             }
@@ -378,19 +335,14 @@ fn longest_buffer(run: &mut Run) -> Compared {
                     continue;
                 }
                 series(run, &buffer[..len], offset, count)?;
-                lent_series(run, &buffer[..len], offset, count, 0, 0)?;
+                lent_series(run, &buffer[..len], offset, count, [0, 0])?;
             }
         }
     }
     for count in 0..=4 {
         for offset in 0..=9 {
-            let case = series::Case {
-                buffer: &[0x72, 5, 0, 0, 0, 0xFF, 0xFF, 0xFF, 0xFF, 0x11],
-                offset,
-                count,
-                kinds: 4,
-                payloads: 5,
-            };
+            let p8 = [0x72, 5, 0, 0, 0, 0xFF, 0xFF, 0xFF, 0xFF, 0x11];
+            let case = series::series(&p8, offset, count, [4, 5]);
             case.compare_beside(&buffer)?;
             case.compare_beside(&[])?;
             run.equal();
@@ -458,7 +410,7 @@ fn random(run: &mut Run) -> Compared {
                 0 => random.below(count + 1),
                 _ => count + random.below(4),
             });
-            lent_series(run, &buffer, offset as u32, count as u32, kinds, payloads)?;
+            lent_series(run, &buffer, offset as u32, count as u32, [kinds, payloads])?;
         }
         let at = random.below(buffer.len() + 2);
         one(run, &buffer, at, random.byte())?;

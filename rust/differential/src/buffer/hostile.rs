@@ -1,12 +1,14 @@
 //! Hostile inputs for the literals.
 
+use bisquepond::sys::LIMIT;
 use harness::Random;
 
-use super::{literal, series};
-use crate::hostile::{file_of, fill, mixed, Compared, Size, Soak};
-use crate::io::LIMIT;
+use super::case::literal;
+use super::case::series::series;
+use crate::case::{Compare, Compared, Difference, Refusal};
+use crate::hostile::{size, Soak};
+use crate::inputs::mixed;
 use crate::lent::Reserved;
-use crate::run::Difference;
 
 /// Runs that are empty, of one value and of many, in tags of one and of two bytes.
 const PIECES: [&[u8]; 12] = [
@@ -30,28 +32,22 @@ pub fn soak(soak: &mut Soak) -> Compared {
         ("empty tags of two kinds in turn, 2^30 bytes", &[0x70, 0x30]),
         ("empty tags of two bytes, 2^30 bytes", &[0xF0, 0]),
     ] {
-        soak.case(&format!("{name}, no value"), file_of(LIMIT), |file| {
-            fill(file, LIMIT, piece);
-            refused(file, 1, 1)
+        soak.filled(&format!("{name}, no value"), (LIMIT, piece), |file| {
+            refused(file, 1, 1, None)
         })?;
-        soak.case(&format!("{name}, one value"), file_of(LIMIT), |file| {
-            fill(file, LIMIT, piece);
+        soak.filled(&format!("{name}, one value"), (LIMIT, piece), |file| {
             file[LIMIT - piece.len()] = 0x11;
             read(file, 1)
         })?;
     }
     far_counts(soak)?;
-    let size = Size {
-        work: 1 << 24,
-        memory: 1 << 30,
-    };
     let mut random = soak.random(3);
-    soak.case("runs of none, one and many in any order", size, |_| {
+    let name = "runs of none, one and many in any order";
+    soak.case(name, size(1 << 24, 1 << 30), |_| {
         let buffer = mixed(&mut random, &PIECES, 1 << 22);
         read(&buffer, 1 << 20)
     })?;
-    soak.case("2^30 + 1 bytes", file_of(LIMIT + 1), |file| {
-        fill(file, LIMIT + 1, &[0x70]);
+    soak.filled("2^30 + 1 bytes", (LIMIT + 1, &[0x70]), |file| {
         read(file, 0)?;
         read(file, 1)
     })?;
@@ -60,78 +56,37 @@ pub fn soak(soak: &mut Soak) -> Compared {
 
 /// A series, and the same as an object's.
 fn read(buffer: &[u8], count: u32) -> Result<String, Difference> {
-    let case = series::Case {
-        buffer,
-        offset: 0,
-        count,
-        kinds: count as usize,
-        payloads: count as usize,
-    };
-    case.compare().map(|()| "as expected".to_string())
+    series(buffer, 0, count, [count as usize; 2]).compared()
 }
 
-fn tables() -> (Reserved<u32>, Reserved<u64>) {
+/// A series that must be refused, into tables of so many words that can't be written; as is told, if anything is.
+fn refused(
+    buffer: &[u8],
+    count: u32,
+    lent: usize,
+    told: Option<Refusal>,
+) -> Result<String, Difference> {
     let most = u32::MAX as usize;
     let tables = Reserved::new(most).zip(Reserved::new(most));
-    tables.expect("addresses for tables that are not written")
-}
-
-/// A series that must be refused, into tables of so many words that can't be written.
-fn refused(buffer: &[u8], count: u32, lent: usize) -> Result<String, Difference> {
-    let (kinds, payloads) = tables();
-    case(buffer, count, lent).compare_refused(&kinds, &payloads)?;
-    Ok("refused".to_string())
-}
-
-fn case(buffer: &[u8], count: u32, lent: usize) -> series::Case<'_> {
-    series::Case {
-        buffer,
-        offset: 0,
-        count,
-        kinds: lent,
-        payloads: lent,
-    }
+    let (kinds, payloads) = tables.expect("addresses for tables that are not written");
+    series(buffer, 0, count, [lent; 2]).compare_refused(told, (&kinds, &payloads))
 }
 
 /// More values than there are, into tables with room for all: the Rust would need 24 bytes for each that there is.
 fn far_counts(soak: &mut Soak) -> Compared {
     let most = u32::MAX as usize;
-    soak.case("count 2^32 - 1, a row short", file_of(LIMIT), |file| {
-        fill(file, LIMIT, &[0x11]);
-        refused(file, u32::MAX, most - 1)
+    soak.filled("count 2^32 - 1, a row short", (LIMIT, &[0x11]), |file| {
+        refused(file, u32::MAX, most - 1, None)
     })?;
     for (name, piece, len, values) in [
-        (
-            "count 2^32 - 1, 2^30 values",
-            [0x11].as_slice(),
-            LIMIT,
-            LIMIT,
-        ),
-        (
-            "count 2^32 - 1, runs of 4,095 nulls",
-            &[0x8F, 0xFF],
-            2 << 20,
-            4095 << 20,
-        ),
-        (
-            "count 2^32 - 1, runs of one integer",
-            &[0x71, 1, 2, 3, 4],
-            LIMIT,
-            LIMIT / 5,
-        ),
-        (
-            "count 2^32 - 1, 12-bit runs of one byte string",
-            &[0xE0, 1, 9],
-            LIMIT,
-            LIMIT / 3,
-        ),
+        ("2^30 values", [0x11].as_slice(), LIMIT, LIMIT),
+        ("runs of 4,095 nulls", &[0x8F, 0xFF], 2 << 20, 4095 << 20),
+        ("runs of one integer", &[0x71, 1, 2, 3, 4], LIMIT, LIMIT / 5),
+        ("12-bit runs of one byte string", &[0xE0, 1, 9], LIMIT, LIMIT / 3),
     ] {
-        soak.case(name, file_of(len), |file| {
-            fill(file, len, piece);
-            let (kinds, payloads) = tables();
-            let refusal = (3, values as u32);
-            case(file, u32::MAX, most).compare_told(refusal, &kinds, &payloads)?;
-            Ok(format!("refused 3 at {values}"))
+        let name = format!("count 2^32 - 1, {name}");
+        soak.filled(&name, (len, piece), |file| {
+            refused(file, u32::MAX, most, Some((3, values as u32)))
         })?;
     }
     Ok(())
@@ -143,12 +98,9 @@ fn any(random: &mut Random) -> Compared {
     let values = random.below(1 << 14) as u32;
     for count in [values, values / 16, 1, u32::MAX] {
         let lent = (count as usize).min(1 << 16) - random.below(2).min(count as usize);
-        case(&buffer, count, lent).compare()?;
+        series(&buffer, 0, count, [lent; 2]).compare()?;
     }
-    let literal = literal::Case {
-        input: &buffer,
-        at: random.below(buffer.len() + 2),
-        tag: random.byte(),
-    };
-    literal.compare()
+    let literal =
+        literal::Case { input: &buffer, at: random.below(buffer.len() + 2), tag: random.byte() };
+    literal.compare().map(drop)
 }

@@ -2,10 +2,10 @@
 
 use harness::Random;
 
+use super::case::{literal, series};
 use super::groups::{any_runs, push_tag, WIDTHS};
-use super::{literal, series};
+use crate::inputs::any_bytes;
 use crate::record::{Fields, Sample};
-use crate::words::any_bytes;
 
 const NAMES: [&str; 4] = [
     "read_literal",
@@ -94,7 +94,7 @@ pub fn write(mut random: Random) -> (Vec<u8>, Vec<String>) {
     sample.done(answers)
 }
 
-/// P8 and P9 of document 01, P8 cut at every byte and from every offset.
+/// P8 and P9 of docs/FORMAT.md, section 10.1, P8 cut at every byte and from every offset.
 fn worked(sample: &mut Sample) {
     let p8 = [0x72, 5, 0, 0, 0, 0xFF, 0xFF, 0xFF, 0xFF, 0x11];
     let right = series::Case {

@@ -1,18 +1,16 @@
 //! The groups of inputs on which the two sides of the debug section are compared.
 
-mod differences;
 mod large;
 mod lists;
-pub mod record;
 
+use bisquepond::sys::LIMIT;
 use harness::Random;
 
-use super::{Answer, Case, ROWS};
-use crate::io::LIMIT;
-use crate::run::{Difference, Run};
-use crate::words::{any_bytes, any_words, code};
-
-type Compared = Result<(), Difference>;
+use super::case::{Answer, Case, ROWS};
+use super::differences;
+use crate::case::{code, Compared, Difference};
+use crate::inputs::{any_bytes, any_words, sleb};
+use crate::run::Run;
 
 pub fn compare(run: &mut Run) -> Compared {
     run.group("offsets and headers that are short", headers)?;
@@ -46,75 +44,61 @@ fn plenty(random: &mut Random) -> [Vec<u32>; 4] {
     ROWS.map(|row| any_words(random, 600 * row))
 }
 
-fn on(run: &mut Run, file: &[u8], offset: u32, lent: &[Vec<u32>; 4]) -> Result<Answer, Difference> {
-    let [a, b, c, d] = lent;
-    let case = Case {
-        file,
-        offset,
-        tables: [a, b, c, d],
-    };
-    let answer = case.compare()?;
-    run.equal();
-    Ok(answer)
+/// With so many words lent in each table.
+pub fn on(
+    run: &mut Run,
+    file: &[u8],
+    offset: u32,
+    lent: &[Vec<u32>; 4],
+) -> Result<Answer, Difference> {
+    run.compare(&case(file, offset, lent))
 }
 
-/// A number in as few bytes as it needs, or in exactly `len` bytes, of which those past the tenth only carry on.
-fn sleb(value: i64, len: usize) -> Vec<u8> {
-    let mut bytes = Vec::new();
-    let mut rest = value;
-    loop {
-        let byte = rest as u8 & 0x7F;
-        rest >>= 7;
-        let done = rest == 0 && byte & 0x40 == 0 || rest == -1 && byte & 0x40 != 0;
-        if bytes.len() + 1 >= len && done {
-            bytes.push(byte);
-            return bytes;
-        }
-        bytes.push(byte | 0x80);
-    }
+pub fn case<'a>(file: &'a [u8], offset: u32, lent: &'a [Vec<u32>; 4]) -> Case<'a> {
+    let tables = lent.each_ref().map(Vec::as_slice);
+    Case { file, offset, tables }
 }
 
 /// A section in pieces: each number of scopes and callees is a piece of its own, so that it can be put in another way.
-#[derive(Clone)]
-struct Section {
-    before: usize,
-    filenames: u32,
-    storage: u32,
-    regions: u32,
-    lines: usize,
-    scopes: Vec<Vec<u8>>,
-    callees: Vec<Vec<u8>>,
-    strings: Vec<Vec<u8>>,
+#[derive(Clone, Default)]
+pub struct Section {
+    pub before: usize,
+    pub filenames: u32,
+    pub storage: u32,
+    pub regions: u32,
+    pub lines: usize,
+    pub scopes: Vec<Vec<u8>>,
+    pub callees: Vec<Vec<u8>>,
+    pub strings: Vec<Vec<u8>>,
+}
+
+/// A section at byte 1 with nothing but its three parts.
+pub fn parts_alone(scopes: &[u8], callees: &[u8], strings: &[u8]) -> Section {
+    Section {
+        before: 1,
+        scopes: vec![scopes.to_vec()],
+        callees: vec![callees.to_vec()],
+        strings: vec![strings.to_vec()],
+        ..Section::default()
+    }
 }
 
 impl Section {
-    fn pieces(&mut self) -> impl Iterator<Item = &mut Vec<u8>> {
+    pub fn pieces(&mut self) -> impl Iterator<Item = &mut Vec<u8>> {
         let numbers = self.scopes.iter_mut().chain(&mut self.callees);
         numbers.chain(&mut self.strings)
     }
 
     /// The file, and where its section begins.
-    fn bytes(&self) -> (Vec<u8>, u32) {
+    pub fn bytes(&self) -> (Vec<u8>, u32) {
         let mut file = vec![0xEE; self.before];
         let sizes = [&self.scopes, &self.callees, &self.strings];
         let [scopes, callees, strings] = sizes.map(|part| part.concat());
         let from = self.lines;
-        let offsets = [
-            from,
-            from + scopes.len(),
-            from + scopes.len() + callees.len(),
-        ];
+        let offsets = [from, from + scopes.len(), from + scopes.len() + callees.len()];
         let [first, second, third] = offsets.map(|offset| offset as u32);
         let size = third + strings.len() as u32;
-        for word in [
-            self.filenames,
-            self.storage,
-            self.regions,
-            first,
-            second,
-            third,
-            size,
-        ] {
+        for word in [self.filenames, self.storage, self.regions, first, second, third, size] {
             file.extend(word.to_le_bytes());
         }
         let skipped = 8 * self.filenames + self.storage + 12 * self.regions;
@@ -127,7 +111,7 @@ impl Section {
 }
 
 /// A good section: every name known, addresses rising.
-fn good(random: &mut Random) -> Section {
+pub fn good(random: &mut Random) -> Section {
     let strings = 1 + random.below(5);
     let text = |random: &mut Random| {
         let len = random.below(6);

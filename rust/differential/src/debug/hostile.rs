@@ -2,14 +2,15 @@
 
 mod callees;
 
+use bisquepond::sys::LIMIT;
 use harness::Random;
 
-use super::{call, Case, Table, LENT, NONE, ROWS, TABLES};
-use crate::hostile::{file_of, fill, mixed, ten, Compared, Size, Soak};
-use crate::io::LIMIT;
+use super::case::{make, Table, LENT, NONE, ROWS};
+use super::groups::case;
+use crate::case::{code, said, Compare, Compared, Difference};
+use crate::hostile::{file_of, rows_are, size, Soak};
+use crate::inputs::{any_words, fill, mixed, ten};
 use crate::lent::Reserved;
-use crate::run::Difference;
-use crate::words::{any_words, code, said};
 
 /// Where the section begins.
 const OFFSET: usize = 1;
@@ -49,7 +50,7 @@ const PARTS: [Part; 5] = [
     },
     Part {
         name: "scopes of no names, ten-byte numbers",
-        piece: &[0x80, 0x80, 0x80, 0x80, 0x80, 0x80, 0x80, 0x80, 0x80, 0].as_slice(),
+        piece: &[0x80, 0x80, 0x80, 0x80, 0x80, 0x80, 0x80, 0x80, 0x80, 0],
         table: SCOPES,
         row: |_, i| [30 * i, 0, 0, 0, 0],
     },
@@ -100,79 +101,52 @@ impl Part {
     /// With the Rust, in 2^24 bytes.
     fn compared(&self, soak: &mut Soak) -> Compared {
         let len = 1 << 24;
-        let size = Size {
-            work: 8 * len,
-            memory: 200 * len,
-        };
-        soak.case(&format!("{}, 2^24 bytes", self.name), size, |file| {
+        let name = format!("{}, 2^24 bytes", self.name);
+        soak.case(&name, size(8 * len, 200 * len), |file| {
             let (_, count) = self.make(file, len);
-            let words = |table: usize| {
-                if table == self.table {
-                    count * ROWS[table]
-                } else {
-                    0
-                }
-            };
-            let tables = [0, 1, 2, 3].map(|table| vec![7; words(table)]);
-            compare(file, &tables)
+            let mut words = [0; 4];
+            words[self.table] = count * ROWS[self.table];
+            compare(file, words)
         })
     }
 
     /// A row short, in 2^30 bytes: refused after all was counted, and nothing is written.
     fn one_short(&self, soak: &mut Soak) -> Compared {
-        soak.case(
-            &format!("{}, 2^30 bytes, a row short", self.name),
-            file_of(LIMIT),
-            |file| {
-                let (_, count) = self.make(file, LIMIT);
-                let table = Reserved::new(count * ROWS[self.table] - 1).expect("addresses");
-                let answer = call(
-                    file,
-                    OFFSET as u32,
-                    self.lent(table.as_mut_ptr(), table.len()),
-                );
-                same(answer, (code(Err((4, 0))), [LENT; 4]))
-            },
-        )
+        let name = format!("{}, 2^30 bytes, a row short", self.name);
+        soak.case(&name, file_of(LIMIT), |file| {
+            let (_, count) = self.make(file, LIMIT);
+            let table = Reserved::new(count * ROWS[self.table] - 1).expect("addresses");
+            let answer = self.call(file, table.as_mut_ptr(), table.len());
+            same(answer, (code(Err((4, 0))), [LENT; 4]))
+        })
     }
 
     /// All rows of 2^30 bytes, worked out beside.
     fn accepted(&self, soak: &mut Soak) -> Compared {
-        let words = LIMIT / self.entry() * ROWS[self.table];
-        let size = Size {
-            work: LIMIT + 4 * words,
-            memory: LIMIT + 4 * words,
-        };
-        soak.case(&format!("{}, 2^30 bytes", self.name), size, |file| {
+        let width = ROWS[self.table];
+        let words = LIMIT / self.entry() * width;
+        let name = format!("{}, 2^30 bytes", self.name);
+        soak.case(&name, file_of(LIMIT + 4 * words), |file| {
             let (begin, count) = self.make(file, LIMIT);
-            let width = ROWS[self.table];
             let mut table = vec![7; count * width];
-            let answer = call(
-                file,
-                OFFSET as u32,
-                self.lent(table.as_mut_ptr(), table.len()),
-            );
+            let answer = self.call(file, table.as_mut_ptr(), table.len());
+            rows_are(&table, width, |i, row| *row == (self.row)(begin, i as u32)[..width])?;
             let mut counts = [0; 4];
             counts[self.table] = count;
-            let rows = table.chunks_exact(width).zip(0..);
-            let wrong = rows
-                .into_iter()
-                .find(|(row, i)| **row != (self.row)(begin, *i)[..width]);
-            match wrong {
-                None => same(answer, (0, counts)),
-                Some((row, i)) => Err(Difference(vec![format!("row {i} is {row:?}")])),
-            }
+            same(answer, (0, counts))
         })
     }
 
-    /// The one table that has words, among others that have none.
-    fn lent(&self, words: *mut u32, len: usize) -> [Table; 4] {
-        let none = std::ptr::NonNull::dangling().as_ptr();
-        let mut tables = [(none, 0); 4];
+    /// The call with the one table that has words, among others that have none.
+    fn call(&self, file: &[u8], words: *mut u32, len: usize) -> (u64, [usize; 4]) {
+        let mut tables = NO_WORDS;
         tables[self.table] = (words, len);
-        tables
+        make(file, OFFSET as u32, tables)
     }
 }
+
+/// Tables that have no words.
+const NO_WORDS: [Table; 4] = [(std::ptr::NonNull::dangling().as_ptr(), 0); 4];
 
 /// The section's header, for a part that begins at a byte of the file.
 fn header(file: &mut [u8], begin: usize, [scopes, callees, strings]: [u32; 3], size: u32) {
@@ -182,113 +156,71 @@ fn header(file: &mut [u8], begin: usize, [scopes, callees, strings]: [u32; 3], s
 }
 
 /// The answer and the counts that were worked out beside.
-fn same(given: (u64, [usize; 4]), expected: (u64, [usize; 4])) -> Result<String, Difference> {
+fn same(given: (u64, [usize; 4]), right: (u64, [usize; 4])) -> Result<String, Difference> {
     let words = |(code, counts): (u64, [usize; 4])| match counts {
-        [LENT, ..] => said(code),
-        _ => format!("{}, counts {counts:?}", said(code)),
+        [LENT, ..] => said(code, ""),
+        _ => format!("{}, counts {counts:?}", said(code, "")),
     };
-    match given == expected {
+    match given == right {
         true => Ok(words(given)),
-        false => Err(Difference(vec![
-            format!("expected  {}", words(expected)),
-            format!("libhbc_c  {}", words(given)),
-        ])),
+        false => Err(format!("{}, not {}", words(given), words(right)).into()),
     }
 }
 
-fn compare(file: &[u8], tables: &[Vec<u32>; 4]) -> Result<String, Difference> {
-    let [a, b, c, d] = tables;
-    let case = Case {
-        file,
-        offset: OFFSET as u32,
-        tables: [a, b, c, d],
-    };
-    Ok(case.compare()?.words(None))
+/// With so many words lent in each table.
+fn compare(file: &[u8], words: [usize; 4]) -> Result<String, Difference> {
+    case(file, OFFSET as u32, &words.map(|words| vec![7; words])).compared()
 }
 
 /// Each word of the header, and all of them, 2^32 - 1.
 fn headers(soak: &mut Soak) -> Compared {
-    soak.case(
-        "header words of 2^32 - 1, 2^30 bytes",
-        file_of(LIMIT),
-        |file| {
-            fill(file, LIMIT, &[0]);
-            let tables = TABLES.map(|_| Vec::new());
-            for far in 1u32..128 {
-                for word in 0..7 {
-                    let number = if far >> word & 1 == 1 {
-                        [0xFF; 4]
-                    } else {
-                        [0; 4]
-                    };
-                    file[OFFSET + 4 * word..][..4].copy_from_slice(&number);
-                }
-                compare(file, &tables)?;
+    let name = "header words of 2^32 - 1, 2^30 bytes";
+    soak.filled(name, (LIMIT, &[0]), |file| {
+        for far in 1u32..128 {
+            for word in 0..7 {
+                let byte = if far >> word & 1 == 1 { 0xFF } else { 0 };
+                file[OFFSET + 4 * word..][..4].fill(byte);
             }
-            Ok("each as expected".to_string())
-        },
-    )
+            compare(file, [0; 4])?;
+        }
+        Ok("each as expected".to_string())
+    })
 }
 
 /// Numbers that claim more than there is: names, callees, bytes of a string.
 fn claims(soak: &mut Soak) -> Compared {
-    for (name, head) in [
-        (
-            "a scope of 2^32 - 1 names",
-            [&[0, 0], ten(u32::MAX.into()).as_slice()].concat(),
-        ),
-        (
-            "a scope of 2^63 - 1 names",
-            [&[0, 0], ten(i64::MAX as u64).as_slice()].concat(),
-        ),
-        (
-            "a scope of as many names as bytes",
-            [&[0, 0], ten((1 << 24) - 72).as_slice()].concat(),
-        ),
+    for (name, names) in [
+        ("a scope of 2^32 - 1 names", u32::MAX.into()),
+        ("a scope of 2^63 - 1 names", i64::MAX as u64),
+        ("a scope of as many names as bytes", (1 << 24) - 72),
     ] {
-        let size = Size {
-            work: 1 << 26,
-            memory: 1 << 31,
-        };
-        soak.case(name, size, |file| {
+        soak.case(name, size(1 << 26, 1 << 31), |file| {
             fill(file, 1 << 24, &[0]);
             let data = (1 << 24) - 60;
             header(file, 60, [0, data, data], data);
-            file[60..60 + head.len()].copy_from_slice(&head);
-            compare(file, &[0, 5, 1 << 24, 0].map(|words| vec![7; words]))
+            file[62..72].copy_from_slice(&ten(names));
+            compare(file, [0, 5, 1 << 24, 0])
         })?;
     }
-    for (name, count) in [
-        ("2^32 - 1 callees", u32::MAX as u64),
-        ("2^63 callees", 1 << 63),
-    ] {
-        soak.case(name, file_of(LIMIT), |file| {
-            fill(file, LIMIT, &[0]);
+    for (name, count) in [("2^32 - 1 callees", u32::MAX as u64), ("2^63 callees", 1 << 63)] {
+        soak.filled(name, (LIMIT, &[0]), |file| {
             let data = (LIMIT - 60) as u32;
             header(file, 60, [0, 0, data - 1], data);
             file[60..70].copy_from_slice(&ten(count));
-            compare(file, &[2, 0, 0, 0].map(|words| vec![7; words]))
+            compare(file, [2, 0, 0, 0])
         })?;
     }
-    soak.case("a string of 2^64 - 1 bytes", file_of(LIMIT), |file| {
-        fill(file, LIMIT, &ten(u64::MAX));
+    let string = "a string of 2^64 - 1 bytes";
+    soak.filled(string, (LIMIT, &ten(u64::MAX)), |file| {
         header(file, 60, [0, 0, 0], (LIMIT - 60) as u32);
-        compare(file, &TABLES.map(|_| Vec::new()))
+        compare(file, [0; 4])
     })
 }
 
 /// Parts of hostile pieces in any order, between any three offsets.
 fn any(random: &mut Random, far: &[u32]) -> Compared {
-    let pieces: [&[u8]; 8] = [
-        &[0],
-        &CUT,
-        &ten(0),
-        &ten(1),
-        &ten(u64::MAX),
-        &[0xFF; 11],
-        &[0, 0, 2],
-        &[1],
-    ];
+    let pieces: [&[u8]; 8] =
+        [&[0], &CUT, &ten(0), &ten(1), &ten(u64::MAX), &[0xFF; 11], &[0, 0, 2], &[1]];
     let len = 100 + random.below(3000);
     let mut file = mixed(random, &pieces, len);
     let size = (file.len() - 60) as u32;
@@ -301,6 +233,5 @@ fn any(random: &mut Random, far: &[u32]) -> Compared {
     header(&mut file, 60, offsets, size);
     let rows = random.pick(&[0, 1, len]);
     let tables = ROWS.map(|row| any_words(random, row * rows));
-    compare(&file, &tables)?;
-    Ok(())
+    case(&file, OFFSET as u32, &tables).compare().map(drop)
 }

@@ -1,19 +1,17 @@
 //! The groups of inputs on which the two sides of the function tables are compared.
 
-pub mod differences;
-
+use bisquepond::sys::LIMIT;
 use harness::Random;
 
-use super::Op::*;
-use super::{fresh, Case, Layout, Op, LAYOUTS, OPS, ROW};
-use crate::io::LIMIT;
-use crate::run::{Difference, Run};
-use crate::words::{any_bytes as bytes, any_words as words};
-
-type Compared = Result<(), Difference>;
+use super::case::Op::*;
+use super::case::{fresh, Case, Layout, Op, LAYOUTS, OPS, ROW};
+use super::differences;
+use crate::case::{code, Compared, Refusal};
+use crate::inputs::{any_bytes as bytes, any_words as words};
+use crate::run::Run;
 
 pub fn compare(run: &mut Run) -> Compared {
-    run.group("worked cases of document 01", worked)?;
+    run.group("worked cases of docs/FORMAT.md", worked)?;
     run.group("every bit of a header", bits)?;
     run.group("every flags byte, inline and large", flags)?;
     run.group("lengths, starts, counts and tables", edges)?;
@@ -24,7 +22,7 @@ pub fn compare(run: &mut Run) -> Compared {
         (0..20_000).try_for_each(|_| edit(run, &mut random))
     })?;
     run.group("a file of 2^30 bytes", longest)?;
-    run.group("2^30 + 1 bytes, against document 01", too_long)?;
+    run.group("2^30 + 1 bytes, against docs/FORMAT.md", too_long)?;
     if run.full {
         run.group("10^6 functions over 2^30 bytes", many)?;
     }
@@ -42,6 +40,10 @@ pub struct Table {
 }
 
 impl Table {
+    pub fn new(layout: Layout, file: Vec<u8>, start: usize, count: u32) -> Self {
+        Table { file, layout, start, count }
+    }
+
     pub fn case<'a>(&'a self, op: Op, table: &'a [u32]) -> Case<'a> {
         Case {
             op,
@@ -56,11 +58,7 @@ impl Table {
     }
 
     pub fn refresh<'a>(&'a self, (low, high): (usize, usize), table: &'a [u32]) -> Case<'a> {
-        Case {
-            low,
-            high,
-            ..self.case(Refresh, table)
-        }
+        Case { low, high, ..self.case(Refresh, table) }
     }
 
     fn header(&mut self, id: u32) -> &mut [u8] {
@@ -108,41 +106,31 @@ impl Table {
     }
 }
 
-fn case(run: &mut Run, case: Case) -> Compared {
-    case.compare()?;
-    run.equal();
+/// Compares, and sees that both sides answer what docs/FORMAT.md prints: one row, which begins with these words, or a
+/// refusal, which leaves all as it was.
+fn says(run: &mut Run, case: Case, told: Result<&[u32], Refusal>) -> Compared {
+    let answer = run.compare(&case)?;
+    let first = told.unwrap_or(case.table);
+    assert_eq!(answer.code, code(told.map(|_| 1)));
+    assert_eq!(answer.table[..first.len()], *first);
     Ok(())
-}
-
-/// Compares, and sees that both sides answer what document 01 prints: the code, and the first row if it is written.
-fn says(run: &mut Run, case: Case, code: u64, row: Option<[u32; ROW]>) -> Compared {
-    let answer = case.compare()?;
-    let first = row.unwrap_or(case.table[..ROW].try_into().unwrap());
-    assert_eq!((answer.code, &answer.table[..ROW]), (code, &first[..]));
-    run.equal();
-    Ok(())
-}
-
-/// An answer that refuses.
-const fn refused(number: u64, place: u64) -> u64 {
-    number << 32 | place
 }
 
 fn worked(run: &mut Run) -> Compared {
     let mut random = run.random(1);
     let lent = words(&mut random, 3 * ROW + 5);
-    let mut table = Table {
-        file: vec![0, 1, 0, 4, 0x0A, 0x80, 1, 0, 0, 0, 0, 0x0A, 1, 2, 3, 4],
-        layout: Layout::Legacy,
-        start: 0,
-        count: 1,
-    };
+    let mut table = Table::new(
+        Layout::Legacy,
+        vec![0, 1, 0, 4, 0x0A, 0x80, 1, 0, 0, 0, 0, 0x0A, 1, 2, 3, 4],
+        0,
+        1,
+    );
     let p1 = [0, 0, 256, 2, 10, 3, 0, 5, 4, 1, 2, 3, 0, 0, 0, 0];
-    says(run, table.case(Read, &lent), 1, Some(p1))?;
+    says(run, table.case(Read, &lent), Ok(&p1))?;
     table.layout = Layout::Modern;
     table.file = vec![0, 1, 0, 0x44, 0x0A, 0xC0, 0, 0x29, 6, 7, 0x48, 4];
     let p2 = [1, 0, 256, 2, 10, 3, 0, 6, 4, 1, 4, 5, 7, 8, 1, 0];
-    says(run, table.case(Read, &lent), 1, Some(p2))?;
+    says(run, table.case(Read, &lent), Ok(&p2))?;
 
     // P3: a large header where the packed parts or-ed lead, another where their sum would.
     table.layout = Layout::Legacy;
@@ -152,7 +140,7 @@ fn worked(run: &mut Run) -> Compared {
     table.file[131_088] = 9;
     let mut p3 = [0; ROW];
     p3[2] = 7;
-    says(run, table.case(Read, &lent), 1, Some(p3))?;
+    says(run, table.case(Read, &lent), Ok(&p3))?;
 
     // P4: the same beyond 2^24, in the modern layout.
     table.layout = Layout::Modern;
@@ -161,7 +149,7 @@ fn worked(run: &mut Run) -> Compared {
     table.file[16_777_248] = 7;
     let mut p4 = [0; ROW];
     (p4[0], p4[2], p4[6]) = (1, 7, 16_777_248 + 40);
-    says(run, table.case(Read, &lent), 1, Some(p4))?;
+    says(run, table.case(Read, &lent), Ok(&p4))?;
 
     // P5: a large header that just fits, and one cut by a byte.
     for layout in LAYOUTS {
@@ -172,24 +160,19 @@ fn worked(run: &mut Run) -> Compared {
         let mut p5 = [0; ROW];
         p5[0] = layout as u32;
         p5[6] = 52 * layout as u32;
-        says(run, table.case(Read, &lent), 1, Some(p5))?;
+        says(run, table.case(Read, &lent), Ok(&p5))?;
         table.file.pop();
-        says(run, table.case(Read, &lent), refused(3, 0), None)?;
+        says(run, table.case(Read, &lent), Err((3, 0)))?;
     }
 
     // The large header of function 0 cut, and header 1 cut: a fresh read names the first, a refresh the second.
     for layout in LAYOUTS {
-        let mut table = Table {
-            file: vec![0; 2 * layout.own() - 1],
-            layout,
-            start: 0,
-            count: 2,
-        };
+        let mut table = Table::new(layout, vec![0; 2 * layout.own() - 1], 0, 2);
         table.point(&mut random, 0, 1);
-        says(run, table.case(Read, &lent), refused(3, 0), None)?;
+        says(run, table.case(Read, &lent), Err((3, 0)))?;
         let span = (0, table.file.len());
-        says(run, table.refresh(span, &lent), refused(3, 1), None)?;
-        says(run, table.refresh((0, 0), &lent), refused(3, 1), None)?;
+        says(run, table.refresh(span, &lent), Err((3, 1)))?;
+        says(run, table.refresh((0, 0), &lent), Err((3, 1)))?;
     }
     Ok(())
 }
@@ -200,12 +183,7 @@ fn bits(run: &mut Run) -> Compared {
     let lent = words(&mut random, 2 * ROW);
     for layout in LAYOUTS {
         let (own, large) = (layout.own(), layout.large());
-        let mut table = Table {
-            file: bytes(&mut random, own + large + 3),
-            layout,
-            start: 0,
-            count: 1,
-        };
+        let mut table = Table::new(layout, bytes(&mut random, own + large + 3), 0, 1);
         for (from, size) in [(0, own), (own, large)] {
             for bit in 0..8 * size {
                 for fill in [0, 0xFF] {
@@ -215,8 +193,8 @@ fn bits(run: &mut Run) -> Compared {
                     }
                     table.file[from..][..size].fill(fill);
                     table.file[from + bit / 8] ^= 1 << (bit % 8);
-                    case(run, table.case(Read, &lent))?;
-                    case(run, table.case(One, &lent))?;
+                    run.compare(&table.case(Read, &lent))?;
+                    run.compare(&table.case(One, &lent))?;
                 }
             }
         }
@@ -228,7 +206,7 @@ fn bits(run: &mut Run) -> Compared {
                 let place = random.below(8) + own - 4;
                 table.point(&mut random, 0, place as u64);
             }
-            case(run, table.case(Read, &lent))?;
+            run.compare(&table.case(Read, &lent))?;
         }
     }
     Ok(())
@@ -240,18 +218,13 @@ fn flags(run: &mut Run) -> Compared {
     let lent = words(&mut random, ROW);
     for layout in LAYOUTS {
         let (own, large) = (layout.own(), layout.large());
-        let mut table = Table {
-            file: bytes(&mut random, own + large),
-            layout,
-            start: 0,
-            count: 1,
-        };
+        let mut table = Table::new(layout, bytes(&mut random, own + large), 0, 1);
         table.point(&mut random, 0, own as u64);
         for inline in 0..=255 {
             table.file[own - 1] = inline;
             for flags in 0..=255 {
                 table.file[own + large - 1] = flags;
-                case(run, table.case(Read, &lent))?;
+                run.compare(&table.case(Read, &lent))?;
             }
         }
     }
@@ -301,11 +274,11 @@ fn edges(run: &mut Run) -> Compared {
                         };
                         for op in OPS {
                             table.op = op;
-                            case(run, table)?;
+                            run.compare(&table)?;
                         }
                         table.op = random.pick(&OPS);
                         table.layout = random.pick(&[2, 3, 1 << 31, u32::MAX]);
-                        case(run, table)?;
+                        run.compare(&table)?;
                     }
                 }
             }
@@ -325,41 +298,20 @@ fn places(run: &mut Run) -> Compared {
             let packed = (0..=len as u64 + 3).chain(far);
             let packed = packed.chain(farther.into_iter().filter(|_| layout == Layout::Legacy));
             for place in packed {
-                let mut table = Table {
-                    file: bytes(&mut random, len),
-                    layout,
-                    start: random.below(len - 2 * own + 1),
-                    count: 2,
-                };
+                let mut table =
+                    Table::new(layout, bytes(&mut random, len), random.below(len - 2 * own + 1), 2);
                 table.header(0)[own - 1] &= !0x20;
                 table.point(&mut random, 1, place);
                 let lent = words(&mut random, 3 * ROW);
-                case(run, table.case(Read, &lent))?;
-                let alone = Case {
-                    count: 1,
-                    ..table.case(One, &lent)
-                };
-                case(run, alone)?;
+                run.compare(&table.case(Read, &lent))?;
+                run.compare(&table.case(One, &lent).of(One, 1))?;
                 // Spans that end before it, at its first byte, at its last and behind it; also past the file's end.
                 let place = place as usize;
-                for at in [
-                    place.saturating_sub(1),
-                    place,
-                    place + large - 1,
-                    place + large,
-                ] {
+                for at in [place.saturating_sub(1), place, place + large - 1, place + large] {
                     for span in [(at, at), (at, at + 1), (at, at + 9), (0, at), (at + 1, at)] {
-                        let (low, high) = span;
-                        case(run, table.refresh(span, &lent))?;
-                        for count in [0, 1, 2] {
-                            let meets = Case {
-                                op: Meets,
-                                count,
-                                low,
-                                high,
-                                ..table.case(Meets, &[])
-                            };
-                            case(run, meets)?;
+                        run.compare(&table.refresh(span, &lent))?;
+                        for id in [0, 1, 2] {
+                            run.compare(&table.refresh(span, &[]).of(Meets, id))?;
                         }
                     }
                 }
@@ -389,7 +341,7 @@ fn spans(run: &mut Run) -> Compared {
         let lent = words(&mut random, 3 * ROW + 1);
         for low in 0..=len + 1 {
             for high in 0..=len + 1 {
-                case(run, table.refresh((low, high), &lent))?;
+                run.compare(&table.refresh((low, high), &lent))?;
             }
         }
     }
@@ -418,12 +370,7 @@ pub fn any_table(random: &mut Random, layout: Option<Layout>) -> Table {
     let len = start + count as usize * layout.own();
     let behind = random.below(200);
     let behind = random.pick(&[0, behind, behind, behind]);
-    let mut table = Table {
-        file: bytes(random, len + behind),
-        layout,
-        start,
-        count,
-    };
+    let mut table = Table::new(layout, bytes(random, len + behind), start, count);
     for id in 0..count {
         if random.below(2) == 0 || table.file.len() < layout.large() {
             table.header(id)[layout.own() - 1] &= !0x20;
@@ -492,11 +439,11 @@ fn edit(run: &mut Run, random: &mut Random) -> Compared {
     let rows = before.count as usize * ROW;
     let over = random.below(2 * ROW);
     let lent = words(random, rows + over);
-    case(run, after.refresh(span, &lent))?;
-    case(run, after.case(Read, &lent))?;
+    run.compare(&after.refresh(span, &lent))?;
+    run.compare(&after.case(Read, &lent))?;
     if before.count > 0 {
         let short = rows - 1 - random.below(ROW);
-        case(run, after.refresh(span, &lent[..short]))?;
+        run.compare(&after.refresh(span, &lent[..short]))?;
     }
     if let Ok(read) = fresh(&before.file, before.layout, before.start, before.count) {
         let mut table = read.concat();
@@ -506,12 +453,7 @@ fn edit(run: &mut Run, random: &mut Random) -> Compared {
     }
     for id in 0..=before.count {
         for op in [One, Meets] {
-            let alone = Case {
-                op,
-                count: id,
-                ..after.refresh(span, &lent)
-            };
-            case(run, alone)?;
+            run.compare(&after.refresh(span, &lent).of(op, id))?;
         }
     }
     Ok(())
@@ -528,12 +470,7 @@ fn longest(run: &mut Run) -> Compared {
             file[tail..].copy_from_slice(&bytes(&mut random, 4096));
             let count = random.below(5);
             let behind = random.pick(&[0, 0, 1, own - 1, own, 100]);
-            let mut table = Table {
-                file,
-                layout,
-                start: LIMIT - behind - count * own,
-                count: count as u32,
-            };
+            let mut table = Table::new(layout, file, LIMIT - behind - count * own, count as u32);
             for id in 0..count as u32 {
                 let last = LIMIT - large;
                 let near = tail + random.below(4096 - large);
@@ -541,49 +478,23 @@ fn longest(run: &mut Run) -> Compared {
                 table.point(&mut random, id, place as u64);
             }
             let lent = words(&mut random, 6 * ROW);
-            case(run, table.case(Read, &lent))?;
+            run.compare(&table.case(Read, &lent))?;
             for count in [0, table.count + 1] {
-                case(
-                    run,
-                    Case {
-                        count,
-                        ..table.case(Read, &lent)
-                    },
-                )?;
+                run.compare(&table.case(Read, &lent).of(Read, count))?;
             }
             for low in [0, 4, tail, table.start, LIMIT - 1, LIMIT, LIMIT + 1] {
                 for high in [0, 1, 6, table.start + 1, LIMIT - 1, LIMIT, LIMIT + 1] {
                     let refresh = table.refresh((low, high), &lent);
-                    case(run, refresh)?;
-                    for count in 0..=table.count {
-                        case(
-                            run,
-                            Case {
-                                op: Meets,
-                                count,
-                                ..refresh
-                            },
-                        )?;
-                        case(
-                            run,
-                            Case {
-                                op: One,
-                                count,
-                                ..refresh
-                            },
-                        )?;
+                    run.compare(&refresh)?;
+                    for id in 0..=table.count {
+                        run.compare(&refresh.of(Meets, id))?;
+                        run.compare(&refresh.of(One, id))?;
                     }
                 }
             }
             for start in [LIMIT - 1, LIMIT, LIMIT + 1] {
                 for op in OPS {
-                    case(
-                        run,
-                        Case {
-                            start,
-                            ..table.case(op, &lent)
-                        },
-                    )?;
+                    run.compare(&Case { start, ..table.case(op, &lent) })?;
                 }
             }
             file = table.file;
@@ -593,26 +504,15 @@ fn longest(run: &mut Run) -> Compared {
 }
 
 fn too_long(run: &mut Run) -> Compared {
-    let table = Table {
-        file: vec![0; LIMIT + 1],
-        layout: Layout::Legacy,
-        start: 0,
-        count: 1,
-    };
+    let table = Table::new(Layout::Legacy, vec![0; LIMIT + 1], 0, 1);
     let lent = [7; ROW];
     for layout in 0..=2 {
         for start in [0, 1, LIMIT, LIMIT + 1, LIMIT + 2] {
             for count in [0, 1, 2] {
                 for span in [(0, 0), (0, 1), (1, 0), (0, LIMIT + 1), (0, LIMIT + 2)] {
                     for op in OPS {
-                        let long = Case {
-                            op,
-                            layout,
-                            start,
-                            count,
-                            ..table.refresh(span, &lent)
-                        };
-                        case(run, long)?;
+                        let long = table.refresh(span, &lent).of(op, count);
+                        run.compare(&Case { layout, start, ..long })?;
                     }
                 }
             }
@@ -626,12 +526,7 @@ fn many(run: &mut Run) -> Compared {
     let mut random = run.random(9);
     const COUNT: u32 = 1_000_000;
     for layout in LAYOUTS {
-        let mut before = Table {
-            file: vec![0; LIMIT],
-            layout,
-            start: 128,
-            count: COUNT,
-        };
+        let mut before = Table::new(layout, vec![0; LIMIT], 128, COUNT);
         for id in 0..COUNT {
             let header = bytes(&mut random, layout.own());
             before.header(id).copy_from_slice(&header);
@@ -697,7 +592,7 @@ fn random(run: &mut Run) -> Compared {
                 high: number(&mut random),
                 ..table.case(op, &lent[..random.below(15 * ROW)])
             };
-            case(run, any)?;
+            run.compare(&any)?;
         }
     }
     Ok(())

@@ -1,15 +1,15 @@
 //! Hostile inputs for the function tables.
 
+use bisquepond::sys::LIMIT;
 use harness::Random;
 use published::format::FLAG_OVERFLOWED;
 
+use super::case::{one, Case, Layout, Op, LAYOUTS, OPS, ROW};
 use super::groups::any_table;
-use super::{call, one, Case, Layout, Op, LAYOUTS, ROW};
-use crate::hostile::{file_of, fill, Compared, Size, Soak};
-use crate::io::LIMIT;
+use crate::case::{Compare, Compared, Difference, Refusal};
+use crate::hostile::{file_of, rows_are, size, Soak};
+use crate::inputs::{any_words, fill};
 use crate::lent::Reserved;
-use crate::run::Difference;
-use crate::words::{self, any_words, Refusal};
 
 pub fn soak(soak: &mut Soak) -> Compared {
     for layout in LAYOUTS {
@@ -24,18 +24,8 @@ pub fn soak(soak: &mut Soak) -> Compared {
             point(&mut file[last..last + layout.own()], layout, place);
         };
         for (name, op, asked, refusal) in [
-            (
-                "read of 2^30 bytes, the last large header cut",
-                Op::Read,
-                count,
-                (3, count - 1),
-            ),
-            (
-                "refresh of 2^30 bytes, the last one cut",
-                Op::Refresh,
-                count,
-                (3, count - 1),
-            ),
+            ("read of 2^30 bytes, the last large header cut", Op::Read, count, (3, count - 1)),
+            ("refresh of 2^30 bytes, the last one cut", Op::Refresh, count, (3, count - 1)),
         ] {
             soak.case(&named(name), file_of(LIMIT), |file| {
                 cut(file);
@@ -99,31 +89,19 @@ fn told(
     refusal: Refusal,
 ) -> Result<String, Difference> {
     let table = Reserved::new(rows * ROW).expect("addresses for a table that is not written");
-    case(file, layout, op, count, &[]).compare_told(refusal, &table)?;
-    Ok(words::said(words::code(Err(refusal))))
+    let case = case(file, layout, op, count, &[]);
+    case.told(case.make(table.as_mut_ptr(), table.len()), Err(refusal))
 }
 
 /// A call on a table at byte 0, with the whole file as span.
 fn case<'a>(file: &'a [u8], layout: Layout, op: Op, count: u32, table: &'a [u32]) -> Case<'a> {
-    Case {
-        op,
-        file,
-        layout: layout as u32,
-        start: 0,
-        count,
-        low: 0,
-        high: file.len(),
-        table,
-    }
+    Case { op, file, layout: layout as u32, start: 0, count, low: 0, high: file.len(), table }
 }
 
 /// Four million functions, all flagged, whose large headers overlap in the table itself, byte by byte.
 fn overlapping(soak: &mut Soak, layout: Layout) -> Compared {
     const COUNT: usize = 1 << 22;
-    let size = Size {
-        work: COUNT * (layout.own() + 4 * ROW),
-        memory: COUNT * 4 * ROW * 8,
-    };
+    let size = size(COUNT * (layout.own() + 4 * ROW), COUNT * 4 * ROW * 8);
     for (op, name) in [(Op::Read, "read"), (Op::Refresh, "refresh")] {
         let mut random = soak.random(4);
         let name = format!("{layout:?}, {name}, large headers that overlap");
@@ -133,9 +111,7 @@ fn overlapping(soak: &mut Soak, layout: Layout) -> Compared {
                 point(header, layout, random.below(COUNT) as u32);
             }
             let table = vec![7; COUNT * ROW];
-            Ok(case(file, layout, op, COUNT as u32, &table)
-                .compare()?
-                .words(None))
+            case(file, layout, op, COUNT as u32, &table).compared()
         })?;
     }
     Ok(())
@@ -144,34 +120,19 @@ fn overlapping(soak: &mut Soak, layout: Layout) -> Compared {
 /// As many functions as 2^30 bytes hold, all by the large header at byte 0: rows by the Rust's for one, with its number.
 fn most(soak: &mut Soak, layout: Layout) -> Compared {
     let count = LIMIT / layout.own();
-    let rows = 4 * ROW * count;
-    let size = Size {
-        work: LIMIT + rows,
-        memory: LIMIT + rows,
-    };
+    let size = file_of(LIMIT + 4 * ROW * count);
     for (op, name) in [(Op::Read, "read"), (Op::Refresh, "refresh")] {
-        soak.case(
-            &format!("{layout:?}, {name}, 2^30 bytes of headers"),
-            size,
-            |file| {
-                fill(file, LIMIT, &flagged(layout));
-                let mut table = vec![7; count * ROW];
-                let asked = case(file, layout, op, count as u32, &[]);
-                let code = call(&asked, table.as_mut_ptr(), table.len());
-                let mut row = one(file, layout, 0, 0).expect("a large header at byte 0");
-                let wrong = table.chunks_exact(ROW).enumerate().find(|(i, given)| {
-                    row[1] = *i as u32;
-                    *given != row
-                });
-                match (code == count as u64, wrong) {
-                    (true, None) => Ok(format!("accepted, {count}")),
-                    (_, wrong) => Err(Difference(vec![format!(
-                        "{}, of {count}; first wrong row {wrong:?}",
-                        words::said(code)
-                    )])),
-                }
-            },
-        )?;
+        soak.case(&format!("{layout:?}, {name}, 2^30 bytes of headers"), size, |file| {
+            fill(file, LIMIT, &flagged(layout));
+            let mut table = vec![7; count * ROW];
+            let asked = case(file, layout, op, count as u32, &[]);
+            let code = asked.make(table.as_mut_ptr(), table.len());
+            let row = one(file, layout, 0, 0).expect("a large header at byte 0");
+            rows_are(&table, ROW, |i, given| {
+                given[1] == i as u32 && given[0] == row[0] && given[2..] == row[2..]
+            })?;
+            asked.told(code, Ok(count as u32))
+        })?;
     }
     Ok(())
 }
@@ -179,10 +140,10 @@ fn most(soak: &mut Soak, layout: Layout) -> Compared {
 /// Small tables with counts, ids and spans of any size.
 fn any(random: &mut Random) -> Compared {
     let table = any_table(random, None);
-    let words = random.pick(&[0, 15, 16, 16 * 40]);
+    let words = random.pick(&[0, ROW - 1, ROW, 40 * ROW]);
     let lent = any_words(random, words);
     let far = [0, 1, u32::MAX as usize, LIMIT, usize::MAX];
-    for op in super::OPS {
+    for op in OPS {
         let asked = Case {
             count: random.pick(&[u32::MAX, u32::MAX - 1, table.case(op, &lent).count]),
             low: random.pick(&far),

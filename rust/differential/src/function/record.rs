@@ -2,11 +2,11 @@
 
 use harness::Random;
 
+use super::case::Op::*;
+use super::case::{right, Case, Layout, LAYOUTS, ROW};
 use super::groups::{any_table, edited, Table};
-use super::Op::*;
-use super::{right, Case, Layout, LAYOUTS, ROW};
+use crate::inputs::any_bytes;
 use crate::record::{Fields, Sample, FILL};
-use crate::words::any_bytes;
 
 const NAMES: [&str; 8] = [
     "read_functions legacy16",
@@ -41,7 +41,7 @@ fn answers(group: usize) -> &'static [u32] {
     }
 }
 
-/// Adds a case with what is right: rows and their refusals by the Rust, all else by document 01.
+/// Adds a case with what is right: rows and their refusals by the Rust, all else by docs/FORMAT.md.
 fn add(sample: &mut Sample, case: Case) {
     assert!(case.table.len() <= MOST_ROWS * ROW);
     assert!(case.table.iter().all(|&word| word == FILL));
@@ -93,7 +93,7 @@ fn lent(rows: usize, over: usize) -> Vec<u32> {
     vec![FILL; rows * ROW + over]
 }
 
-/// P1, P2 and P5 of document 01, and the function that a fresh read and a refresh name each by itself.
+/// P1, P2 and P5 of docs/FORMAT.md, section 10.1, and the function that a fresh read and a refresh name each by itself.
 fn worked(sample: &mut Sample) {
     let p1 = [0, 1, 0, 4, 0x0A, 0x80, 1, 0, 0, 0, 0, 0x0A, 1, 2, 3, 4];
     let p2 = [0, 1, 0, 0x44, 0x0A, 0xC0, 0, 0x29, 6, 7, 0x48, 4];

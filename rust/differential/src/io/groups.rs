@@ -1,28 +1,15 @@
 //! The groups of inputs on which the two sides of the cursor layer are compared.
 
-mod differences;
-
-use bisquepond::sys::{hbc_bits, hbc_remaining};
+use bisquepond::sys::{hbc_bits, hbc_remaining, LIMIT};
 use harness::Random;
 use published::io::ByteReader;
 
-use super::Op::*;
-use super::{Case, Op, LIMIT, OPS, PLAIN};
-use crate::run::{Difference, Run};
-
-type Compared = Result<(), Difference>;
-
-fn case(run: &mut Run, op: Op, input: &[u8], at: usize, argument: usize) -> Compared {
-    let case = Case {
-        op,
-        input,
-        at,
-        argument,
-    };
-    case.compare()?;
-    run.equal();
-    Ok(())
-}
+use super::case::Op::*;
+use super::case::{case, Op, OPS, PLAIN};
+use super::differences;
+use crate::case::Compared;
+use crate::inputs::random_bytes;
+use crate::run::Run;
 
 pub fn compare(run: &mut Run) -> Compared {
     run.group("bits, against u128", bits)?;
@@ -37,9 +24,9 @@ pub fn compare(run: &mut Run) -> Compared {
     run.group("Bytes, every cursor", spans)?;
     run.group("Seek, every cursor", seeks)?;
     run.group("Align, every cursor", aligns)?;
-    run.group("cursors past the end, against document 01", past_the_end)?;
+    run.group("cursors past the end, against docs/FORMAT.md", past_the_end)?;
     run.group("an input of 2^30 bytes", longest)?;
-    run.group("2^30 + 1 bytes, against document 01", too_long)?;
+    run.group("2^30 + 1 bytes, against docs/FORMAT.md", too_long)?;
     run.group("the differences that docs list", differences::listed)?;
     run.group("random", random)
 }
@@ -59,9 +46,10 @@ fn bits(run: &mut Run) -> Compared {
                 let expected = (shifted & mask) as u64;
                 let given = unsafe { hbc_bits(word, first, width) };
                 if given != expected {
-                    return Err(Difference(vec![format!(
+                    return Err(format!(
                         "hbc_bits({word:#x}, {first}, {width}) is {given:#x}, not {expected:#x}"
-                    )]));
+                    )
+                    .into());
                 }
                 run.equal();
             }
@@ -79,10 +67,9 @@ fn remains(run: &mut Run, input: &[u8], at: usize) -> Compared {
     };
     let given = unsafe { hbc_remaining(input.as_ptr(), input.len(), at) };
     if given != expected {
-        return Err(Difference(vec![format!(
-            "hbc_remaining of {} bytes at {at} is {given}, not {expected}",
-            input.len()
-        )]));
+        let len = input.len();
+        let wrong = format!("hbc_remaining of {len} bytes at {at} is {given}, not {expected}");
+        return Err(wrong.into());
     }
     run.equal();
     Ok(())
@@ -104,10 +91,10 @@ fn short(run: &mut Run, op: Op) -> Compared {
         for n in 0..1u32 << (8 * len) {
             let bytes = n.to_le_bytes();
             let input = &bytes[..len as usize];
-            case(run, op, input, 0, 0)?;
+            run.compare(&case(op, input, 0, 0))?;
             if len <= 2 {
                 for at in 1..=len as usize {
-                    case(run, op, input, at, 0)?;
+                    run.compare(&case(op, input, at, 0))?;
                 }
             }
         }
@@ -131,21 +118,17 @@ fn long_leb128(run: &mut Run) -> Compared {
                 }));
                 input.push(last);
                 for op in [Uleb128, Sleb128, LengthPrefixedString] {
-                    case(run, op, &input, at, 0)?;
+                    run.compare(&case(op, &input, at, 0))?;
                 }
                 let tail = random.below(20);
                 input.extend((0..tail).map(|_| random.byte()));
                 for op in [Uleb128, Sleb128, LengthPrefixedString] {
-                    case(run, op, &input, at, 0)?;
+                    run.compare(&case(op, &input, at, 0))?;
                 }
             }
         }
     }
     Ok(())
-}
-
-fn random_bytes(random: &mut Random, len: usize) -> Vec<u8> {
-    (0..len).map(|_| random.byte()).collect()
 }
 
 fn plain(run: &mut Run) -> Compared {
@@ -155,14 +138,14 @@ fn plain(run: &mut Run) -> Compared {
             let input = random_bytes(&mut random, len);
             for at in 0..=len {
                 for op in PLAIN {
-                    case(run, op, &input, at, 0)?;
+                    run.compare(&case(op, &input, at, 0))?;
                 }
             }
         }
     }
     for byte in 0..=255 {
         for op in PLAIN {
-            case(run, op, &[byte; 8], 0, 0)?;
+            run.compare(&case(op, &[byte; 8], 0, 0))?;
         }
     }
     Ok(())
@@ -177,7 +160,7 @@ fn floats(run: &mut Run) -> Compared {
             let some = (0..6).map(|_| random.word() & top).collect::<Vec<_>>();
             for fraction in [0, 1, 1 << 51, top - 1, top].into_iter().chain(some) {
                 let input = (sign << 63 | exponent << 52 | fraction).to_le_bytes();
-                case(run, F64, &input, 0, 0)?;
+                run.compare(&case(F64, &input, 0, 0))?;
             }
         }
     }
@@ -190,7 +173,7 @@ fn spans(run: &mut Run) -> Compared {
         let input = random_bytes(&mut random, len);
         for at in 0..=len {
             for argument in (0..=len + 1).chain(FAR).chain(around(at)) {
-                case(run, Bytes, &input, at, argument)?;
+                run.compare(&case(Bytes, &input, at, argument))?;
             }
         }
     }
@@ -202,7 +185,7 @@ fn seeks(run: &mut Run) -> Compared {
     for len in 0..=17 {
         for at in 0..=len {
             for argument in (0..=len + 2).chain(FAR) {
-                case(run, Seek, &input[..len], at, argument)?;
+                run.compare(&case(Seek, &input[..len], at, argument))?;
             }
         }
     }
@@ -214,7 +197,7 @@ fn aligns(run: &mut Run) -> Compared {
     for len in 0..=33 {
         for at in 0..=len {
             for argument in (0..=40).chain(FAR) {
-                case(run, Align, &input[..len], at, argument)?;
+                run.compare(&case(Align, &input[..len], at, argument))?;
             }
         }
     }
@@ -260,7 +243,7 @@ fn past_the_end(run: &mut Run) -> Compared {
         for at in (len + 1..=len + 9).chain(FAR) {
             for op in OPS {
                 for argument in arguments(op, len) {
-                    case(run, op, &input, at, argument)?;
+                    run.compare(&case(op, &input, at, argument))?;
                 }
             }
         }
@@ -287,7 +270,7 @@ fn longest(run: &mut Run) -> Compared {
             remains(run, &input, at)?;
             for op in OPS {
                 for argument in arguments(op, LIMIT) {
-                    case(run, op, &input, at, argument)?;
+                    run.compare(&case(op, &input, at, argument))?;
                 }
             }
         }
@@ -301,7 +284,7 @@ fn too_long(run: &mut Run) -> Compared {
         remains(run, &input, at)?;
         for op in OPS {
             for argument in arguments(op, input.len()) {
-                case(run, op, &input, at, argument)?;
+                run.compare(&case(op, &input, at, argument))?;
             }
         }
     }
@@ -330,7 +313,7 @@ fn random(run: &mut Run) -> Compared {
                 (Bytes | Seek | Align, _) => random.below(len + 3),
                 _ => 0,
             };
-            case(run, op, &input, at, argument)?;
+            run.compare(&case(op, &input, at, argument))?;
         }
     }
     Ok(())

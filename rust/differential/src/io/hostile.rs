@@ -1,10 +1,12 @@
 //! Hostile inputs for the cursor layer.
 
+use bisquepond::sys::LIMIT;
 use harness::Random;
 
-use super::{Case, Op, LIMIT, OPS};
-use crate::hostile::{file_of, fill, mixed, ten, Compared, Size, Soak};
-use crate::run::Difference;
+use super::case::{case, Op, OPS};
+use crate::case::{Compare, Compared, Difference};
+use crate::hostile::{file_of, size, Soak};
+use crate::inputs::{fill, mixed, ten};
 
 /// Lengths, targets and alignments that no file has.
 const FAR: [usize; 6] = [0, 1, LIMIT, u32::MAX as usize, 1 << 63, usize::MAX];
@@ -22,39 +24,24 @@ pub fn soak(soak: &mut Soak) -> Compared {
             far_numbers(file)
         })?;
     }
-    for (name, number) in [
-        ("ten-byte LEB128 everywhere, 0", 0),
-        ("ten-byte LEB128 everywhere, 2^64 - 1", u64::MAX),
-    ] {
+    for (name, number) in
+        [("ten-byte LEB128 everywhere, 0", 0), ("ten-byte LEB128 everywhere, 2^64 - 1", u64::MAX)]
+    {
         soak.case(name, file_of(1 << 24), |file| {
             fill(file, 1 << 24, &ten(number));
             walk(file, (0..file.len()).step_by(10))
         })?;
     }
     let places = soak.random(1);
-    soak.case(
-        "ten-byte LEB128 everywhere, 2^30 bytes",
-        file_of(LIMIT),
-        |file| {
-            fill(file, LIMIT, &ten(u64::MAX));
-            let mut places = places;
-            let near_the_end = LIMIT - 40..=LIMIT;
-            let places: Vec<usize> = (0..20_000).map(|_| 10 * places.below(LIMIT / 10)).collect();
-            walk(file, places.into_iter().chain(near_the_end))
-        },
-    )?;
+    soak.case("ten-byte LEB128 everywhere, 2^30 bytes", file_of(LIMIT), |file| {
+        fill(file, LIMIT, &ten(u64::MAX));
+        let mut places = places;
+        let near_the_end = LIMIT - 40..=LIMIT;
+        let places: Vec<usize> = (0..20_000).map(|_| 10 * places.below(LIMIT / 10)).collect();
+        walk(file, places.into_iter().chain(near_the_end))
+    })?;
     longest_texts(soak)?;
     soak.at_random(1 << 12, any)
-}
-
-fn compare(op: Op, input: &[u8], at: usize, argument: usize) -> Result<String, Difference> {
-    let case = Case {
-        op,
-        input,
-        at,
-        argument,
-    };
-    Ok(case.compare()?.words(op))
 }
 
 /// Every call from both ends, from past the end, and with numbers as large as there are.
@@ -67,7 +54,7 @@ fn far_numbers(file: &[u8]) -> Result<String, Difference> {
                 continue;
             }
             for argument in FAR {
-                compare(op, file, at, argument)?;
+                case(op, file, at, argument).compare()?;
             }
         }
     }
@@ -77,7 +64,7 @@ fn far_numbers(file: &[u8]) -> Result<String, Difference> {
 fn walk(file: &[u8], places: impl Iterator<Item = usize>) -> Result<String, Difference> {
     for at in places {
         for op in LEB128 {
-            compare(op, file, at, 0)?;
+            case(op, file, at, 0).compare()?;
         }
     }
     Ok("each as expected".to_string())
@@ -87,32 +74,25 @@ fn walk(file: &[u8], places: impl Iterator<Item = usize>) -> Result<String, Diff
 fn longest_texts(soak: &mut Soak) -> Compared {
     soak.case("zero-ended, no zero, 2^30 bytes", file_of(LIMIT), |file| {
         fill(file, LIMIT, b"a");
-        compare(Op::Cstring, file, 0, 0)
+        case(Op::Cstring, file, 0, 0).compared()
     })?;
     // The Rust makes a text of it.
-    let size = Size {
-        work: LIMIT,
-        memory: 4 * LIMIT,
-    };
+    let size = size(LIMIT, 4 * LIMIT);
     soak.case("zero-ended, the zero last, 2^30 bytes", size, |file| {
         fill(file, LIMIT, b"a");
         file[LIMIT - 1] = 0;
-        compare(Op::Cstring, file, 0, 0)
+        case(Op::Cstring, file, 0, 0).compared()
     })?;
     soak.case("prefix of ten bytes, all that is left", size, |file| {
         fill(file, LIMIT, b"a");
         file[..10].copy_from_slice(&ten(LIMIT as u64 - 10));
-        compare(Op::LengthPrefixedString, file, 0, 0)
+        case(Op::LengthPrefixedString, file, 0, 0).compared()
     })?;
-    soak.case(
-        "prefix of ten bytes, one more than that",
-        file_of(LIMIT),
-        |file| {
-            fill(file, LIMIT, b"a");
-            file[..10].copy_from_slice(&ten(LIMIT as u64 - 9));
-            compare(Op::LengthPrefixedString, file, 0, 0)
-        },
-    )
+    soak.case("prefix of ten bytes, one more than that", file_of(LIMIT), |file| {
+        fill(file, LIMIT, b"a");
+        file[..10].copy_from_slice(&ten(LIMIT as u64 - 9));
+        case(Op::LengthPrefixedString, file, 0, 0).compared()
+    })
 }
 
 /// Numbers of one to eleven bytes in any order, read from any place.
@@ -123,7 +103,7 @@ fn any(random: &mut Random) -> Compared {
     for op in OPS {
         let at = random.below(file.len() + 2);
         let argument = random.pick(&FAR) ^ random.below(16);
-        compare(op, &file, at, argument)?;
+        case(op, &file, at, argument).compare()?;
     }
     Ok(())
 }

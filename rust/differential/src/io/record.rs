@@ -1,11 +1,11 @@
-//! A sample of the Rust's answers, as the program io_vectors reads it from its standard input. docs/VECTORS.md has the
+//! A sample of the Rust's answers, as the program io_vectors reads it from its standard input. docs/COMPARISON.md has the
 //! form of a record.
 
 use harness::{count, Random};
 
+use super::case::Op::*;
+use super::case::{rust, Answer, Case, Op, OPS, PLAIN};
 use super::groups::any_byte;
-use super::Op::*;
-use super::{rust, Answer, Case, Op, OPS, PLAIN};
 
 const MOST_BYTES: usize = 60_000;
 

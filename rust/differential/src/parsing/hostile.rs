@@ -1,46 +1,36 @@
 //! Hostile inputs for handlers and trailing sections.
 
+use bisquepond::sys::LIMIT;
 use harness::Random;
 
-use super::{handlers, sections};
-use crate::hostile::{file_of, fill, Compared, Size, Soak};
-use crate::io::LIMIT;
-use crate::run::Difference;
+use super::case::handlers::{self, function, FUNCTION, HAS, ROW};
+use super::case::sections;
+use super::groups::handlers::{any as any_handlers, past_counting};
+use crate::case::{Compare, Compared, Difference};
+use crate::hostile::{file_of, size, Soak};
+use crate::inputs::fill;
 
 /// Functions of the cases that have many.
 const FUNCTIONS: usize = 1 << 20;
 
 pub fn soak(soak: &mut Soak) -> Compared {
-    let (own, row) = (4 * 16, 4 * handlers::ROW);
-    soak.case(
-        "handlers, 2^32 + 704 rows, 704 lent",
-        file_of(4_294_968 * own),
-        |_| handlers::past_counting(),
-    )?;
-    soak.case("handlers of 2^32 - 1 functions", file_of(LIMIT), |file| {
-        fill(file, LIMIT, &[1, 0, 0, 0]);
-        read(file, &handlers::function(4, handlers::HAS), u32::MAX, 1)
-    })?;
+    let (own, row) = (4 * FUNCTION, 4 * ROW);
+    let many = "handlers, 2^32 + 704 rows, 704 lent";
+    soak.case(many, file_of(4_294_968 * own), |_| past_counting())?;
+    let (ones, all) = ([1, 0, 0, 0], "handlers of 2^32 - 1 functions");
+    soak.filled(all, (LIMIT, &ones), |file| read(file, &function(4, HAS), u32::MAX, 1))?;
     // In a file of ones every fourth byte has one handler, in one of 0xFF every count is 2^32 - 1.
-    let size = Size {
-        work: FUNCTIONS * (own + row + 64),
-        memory: LIMIT + FUNCTIONS * 1024,
-    };
+    let size = size(FUNCTIONS * (own + row + 64), LIMIT + FUNCTIONS * 1024);
     for (name, piece, rows) in [
-        ("handlers anywhere in 2^30 bytes", [1, 0, 0, 0], FUNCTIONS),
-        (
-            "handlers anywhere, a row short",
-            [1, 0, 0, 0],
-            FUNCTIONS - 1,
-        ),
+        ("handlers anywhere in 2^30 bytes", ones, FUNCTIONS),
+        ("handlers anywhere, a row short", ones, FUNCTIONS - 1),
         ("handler counts of 2^32 - 1 anywhere", [0xFF; 4], 0),
     ] {
         let mut random = soak.random(5);
         soak.case(name, size, |file| {
             fill(file, LIMIT, &piece);
             let info = |random: &mut Random| 4 + random.below(LIMIT - 24) as u32;
-            let functions =
-                (0..FUNCTIONS).map(|_| handlers::function(info(&mut random), handlers::HAS));
+            let functions = (0..FUNCTIONS).map(|_| function(info(&mut random), HAS));
             let functions: Vec<_> = functions.collect();
             read(file, functions.as_flattened(), FUNCTIONS as u32, rows)
         })?;
@@ -51,42 +41,29 @@ pub fn soak(soak: &mut Soak) -> Compared {
 }
 
 fn read(file: &[u8], functions: &[u32], count: u32, rows: usize) -> Result<String, Difference> {
-    let case = handlers::Case {
-        file,
-        functions,
-        count,
-        rows: &vec![7; rows * handlers::ROW],
-    };
-    Ok(case.compare()?.words(None))
+    let case = handlers::Case { file, functions, count, rows: &vec![7; rows * ROW] };
+    case.compared()
 }
 
 /// Functions that share one table of a thousand handlers: a small file, and very many rows.
 fn shared(soak: &mut Soak) -> Compared {
     const COUNT: usize = 1 << 13;
-    let size = Size {
-        work: COUNT * 1000 * 16,
-        memory: COUNT * 1000 * 16 * 8,
-    };
+    let bytes = COUNT * 1000 * 4 * ROW;
+    let size = size(bytes, 8 * bytes);
     soak.case("handlers, 8,192 functions share a thousand", size, |file| {
         fill(file, 4 + 4 + 12_000, &[0xE8, 3, 0, 0]);
-        let functions = handlers::function(4, handlers::HAS).repeat(COUNT);
+        let functions = function(4, HAS).repeat(COUNT);
         read(file, &functions, COUNT as u32, COUNT * 1000)
     })
 }
 
 /// The Rust copies the file twice, and makes vectors of as many entries as there are.
 fn trailing(soak: &mut Soak) -> Compared {
-    let size = Size {
-        work: LIMIT,
-        memory: 6 * LIMIT,
-    };
+    let size = size(LIMIT, 6 * LIMIT);
     let (some, far) = ((LIMIT / 32) as u32, u32::MAX);
+    let whole = [some, LIMIT as u32 / 4, some, some / 2];
     for (name, counts, words) in [
-        (
-            "sections of 2^30 bytes",
-            [some, LIMIT as u32 / 4, some, some / 2],
-            20,
-        ),
+        ("sections of 2^30 bytes", whole, 20),
         ("sections of 2^30 bytes, a row short", [some; 4], 19),
         ("sections, 2^32 - 1 regexps", [far, 0, 0, 0], 20),
         ("sections, storage of 2^32 - 1 bytes", [0, far, 0, 0], 20),
@@ -114,12 +91,12 @@ fn find(file: &[u8], start: usize, counts: [u32; 4], rows: &[u32]) -> Result<Str
         aside: 0,
         rows,
     };
-    Ok(case.compare()?.words(None))
+    case.compared()
 }
 
 /// Small files with counts of any size.
 fn any(random: &mut Random) -> Compared {
-    let made = handlers::any(random);
+    let made = any_handlers(random);
     let count = random.pick(&[made.count, u32::MAX]);
     read(&made.file, &made.functions, count, random.below(40))?;
     let counts = [0; 4].map(|_| random.pick(&[0, 1, 2, u32::MAX, 1 << 29]));

@@ -2,10 +2,11 @@
 
 use harness::Random;
 
-use super::handlers::{self, function, FUNCTION, HAS};
-use super::sections;
+use super::case::handlers::{self, function, FUNCTION, HAS};
+use super::case::sections;
+use super::groups;
+use crate::inputs::{any_bytes, any_words};
 use crate::record::{Fields, Sample, FILL};
-use crate::words::{any_bytes, any_words};
 
 const NAMES: [&str; 3] = [
     "read_handlers",
@@ -98,7 +99,8 @@ pub fn write(mut random: Random) -> (Vec<u8>, Vec<String>) {
     sample.done(answers)
 }
 
-/// Document 01's cases: no handler where one of two is cut; a section whose padding leaves the file.
+/// The cases of docs/FORMAT.md, section 10.2: no handler where one of two is cut; a section whose padding leaves the
+/// file.
 fn worked(sample: &mut Sample) {
     let mut file = [0; 64];
     for (count, rows) in [(2, 0), (1, 1), (0, 0)] {
@@ -197,7 +199,7 @@ fn counts(sample: &mut Sample, random: &mut Random) {
 }
 
 fn any(sample: &mut Sample, random: &mut Random) {
-    let made = handlers::any(random);
+    let made = groups::handlers::any(random);
     let total = handlers::published(&made.file, &made.functions).len();
     if made.file.len() <= 90 && made.count <= 3 && total <= 8 {
         let over = random.below(5);
@@ -209,7 +211,7 @@ fn any(sample: &mut Sample, random: &mut Random) {
     let len = random.below(60);
     let file = any_bytes(random, len);
     let rows = [FILL; sections::ROWS * sections::ROW];
-    let case = sections::any(random, &file, &rows);
+    let case = groups::sections::any(random, &file, &rows);
     let counts = [case.regexps, case.storage, case.cjs];
     found(sample, &file, case.start, counts, case.sources);
 }

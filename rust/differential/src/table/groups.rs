@@ -1,42 +1,15 @@
 //! The groups of inputs on which the two sides of the string tables are compared.
 
-mod differences;
-
+use bisquepond::sys::LIMIT;
 use harness::Random;
 
-use super::bytes_of;
-use super::reads::{self, Op, OPS};
-use super::strings::{self, compare_bytes, ROW};
-use crate::io::LIMIT;
+use super::case::reads::{read, OPS};
+use super::case::strings::{self, part, ROW};
+use super::differences;
+use crate::case::Compared;
+use crate::inputs::{bytes_of, random_bytes};
 use crate::lent::Reserved;
-use crate::run::{Difference, Run};
-
-type Compared = Result<(), Difference>;
-
-fn read(run: &mut Run, op: Op, input: &[u8], at: usize, count: u32, lent: usize) -> Compared {
-    let case = reads::Case {
-        op,
-        input,
-        at,
-        count,
-        lent,
-    };
-    case.compare()?;
-    run.equal();
-    Ok(())
-}
-
-fn decode(run: &mut Run, case: strings::Case) -> Compared {
-    case.compare()?;
-    run.equal();
-    Ok(())
-}
-
-fn part(run: &mut Run, storage: &[u8], rows: &[u32], index: usize) -> Compared {
-    compare_bytes(storage, rows, index)?;
-    run.equal();
-    Ok(())
-}
+use crate::run::Run;
 
 pub fn compare(run: &mut Run) -> Compared {
     run.group("table reads, every length and cursor", short_tables)?;
@@ -52,7 +25,7 @@ pub fn compare(run: &mut Run) -> Compared {
     run.group("strings, all orders of long and short", overflow_order)?;
     run.group("strings, lent rows of any size", lent_rows)?;
     run.group("strings, storages to 2^23 and 2^30 bytes", long_storages)?;
-    run.group("one string's bytes, against document 01", parts)?;
+    run.group("one string's bytes, against docs/FORMAT.md", parts)?;
     if run.full {
         run.group("a whole file of 2^30 bytes", whole_file)?;
         run.group("strings of 2^30 bytes", longest_strings)?;
@@ -60,10 +33,6 @@ pub fn compare(run: &mut Run) -> Compared {
     }
     run.group("the differences that docs list", differences::listed)?;
     run.group("random", random)
-}
-
-fn random_bytes(random: &mut Random, len: usize) -> Vec<u8> {
-    (0..len).map(|_| random.byte()).collect()
 }
 
 /// Numbers far beyond any small table, at the edges of 32 bits and where four or eight times one leaves them.
@@ -94,7 +63,7 @@ fn short_tables(run: &mut Run) -> Compared {
                 for count in 0..=9 {
                     let fits = count as usize * op.width();
                     for lent in fits.saturating_sub(3)..=fits + 3 {
-                        read(run, op, &input, at, count, lent)?;
+                        run.compare(&read(op, &input, at, count, lent))?;
                     }
                 }
             }
@@ -112,7 +81,7 @@ fn two_bytes(run: &mut Run) -> Compared {
                 let mut input = [0x5A; 8];
                 for n in 0..=u16::MAX {
                     [input[first], input[second]] = n.to_le_bytes();
-                    read(run, op, &input[..len], 0, 1, 2)?;
+                    run.compare(&read(op, &input[..len], 0, 1, 2))?;
                 }
             }
         }
@@ -131,7 +100,7 @@ fn cut_tables(run: &mut Run) -> Compared {
                 let whole = (end - at) / (4 * op.width());
                 let all = 100 / op.width();
                 for count in [whole.saturating_sub(1), whole, whole + 1, all] {
-                    read(run, op, &input[..end], at, count as u32, 101)?;
+                    run.compare(&read(op, &input[..end], at, count as u32, 101))?;
                 }
             }
         }
@@ -147,7 +116,7 @@ fn lent_tables(run: &mut Run) -> Compared {
         for count in 0..=64 / op.width() as u32 + 1 {
             for lent in 0..=70 {
                 for at in [0, 1, 255, 256] {
-                    read(run, op, &input, at, count, lent)?;
+                    run.compare(&read(op, &input, at, count, lent))?;
                 }
             }
         }
@@ -167,18 +136,11 @@ fn far_counts(run: &mut Run) -> Compared {
         for at in 0..=len + 1 {
             for op in OPS {
                 for count in FAR {
-                    read(run, op, &input, at, count, 9)?;
+                    run.compare(&read(op, &input, at, count, 9))?;
                     let Some(huge) = &huge else { continue };
                     let fits = count as usize * op.width();
                     for lent in [fits - 1, fits, fits + 1] {
-                        let case = reads::Case {
-                            op,
-                            input: &input,
-                            at,
-                            count,
-                            lent,
-                        };
-                        case.compare_refused(huge)?;
+                        read(op, &input, at, count, lent).compare_refused(huge)?;
                         run.equal();
                     }
                 }
@@ -196,7 +158,7 @@ fn past_the_end(run: &mut Run) -> Compared {
             for op in OPS {
                 for count in [0, 1, 2, 1 << 30, u32::MAX] {
                     for lent in [0, 1, 2, 4, 5] {
-                        read(run, op, &input[..len], at, count, lent)?;
+                        run.compare(&read(op, &input[..len], at, count, lent))?;
                     }
                 }
             }
@@ -218,7 +180,7 @@ fn longest_file(run: &mut Run) -> Compared {
             for op in OPS {
                 for count in 0..=17 {
                     for lent in [0, 16, 17, 34] {
-                        read(run, op, &input[..len], at, count, lent)?;
+                        run.compare(&read(op, &input[..len], at, count, lent))?;
                     }
                 }
             }
@@ -262,34 +224,18 @@ fn kind_runs(run: &mut Run) -> Compared {
             for strings in 0..=7 {
                 let small = &entries[..strings];
                 for count in [0, 1, 3, strings as u32, strings as u32 + 1, u32::MAX] {
-                    decode(
-                        run,
-                        strings::Case {
-                            count,
-                            kinds,
-                            small,
-                            ..all
-                        },
-                    )?;
+                    run.compare(&strings::Case { count, kinds, small, ..all })?;
                 }
             }
         }
     }
     let most = IDENTIFIER - 1;
-    let alphabet = [
-        0,
-        IDENTIFIER,
-        2,
-        most,
-        most - 1,
-        IDENTIFIER | most,
-        u32::MAX - 1,
-    ];
+    let alphabet = [0, IDENTIFIER, 2, most, most - 1, IDENTIFIER | most, u32::MAX - 1];
     for first in alphabet {
         for second in alphabet {
             for third in alphabet {
                 let kinds = &[first, second, third];
-                decode(run, strings::Case { kinds, ..all })?;
+                run.compare(&strings::Case { kinds, ..all })?;
             }
         }
     }
@@ -297,7 +243,7 @@ fn kind_runs(run: &mut Run) -> Compared {
     for kind in [0, IDENTIFIER] {
         for bit in 0..31 {
             let kinds = &[kind | 1 << bit, !kind & IDENTIFIER | 9];
-            decode(run, strings::Case { kinds, ..all })?;
+            run.compare(&strings::Case { kinds, ..all })?;
         }
     }
     Ok(())
@@ -318,17 +264,14 @@ fn one_entry(run: &mut Run) -> Compared {
             for length in 0..=255 {
                 for utf16 in [false, true] {
                     for overflow in [&[][..], &[1], &[1, 2]] {
-                        decode(
-                            run,
-                            strings::Case {
-                                count: 1,
-                                kinds: &[1],
-                                small: &[small(utf16, offset, length)],
-                                overflow,
-                                storage: &storage,
-                                lent: ROW,
-                            },
-                        )?;
+                        run.compare(&strings::Case {
+                            count: 1,
+                            kinds: &[1],
+                            small: &[small(utf16, offset, length)],
+                            overflow,
+                            storage: &storage,
+                            lent: ROW,
+                        })?;
                     }
                 }
             }
@@ -353,17 +296,14 @@ fn one_pair(run: &mut Run) -> Compared {
             let halves = wraps.map(|length| length / 2 + (1 << 31));
             for length in numbers.iter().copied().chain(wraps).chain(halves) {
                 for utf16 in [false, true] {
-                    decode(
-                        run,
-                        strings::Case {
-                            count: 1,
-                            kinds: &[IDENTIFIER + 1],
-                            small: &[small(utf16, 3, 255)],
-                            overflow: &[offset, length],
-                            storage: &storage,
-                            lent: ROW + 3,
-                        },
-                    )?;
+                    run.compare(&strings::Case {
+                        count: 1,
+                        kinds: &[IDENTIFIER + 1],
+                        small: &[small(utf16, 3, 255)],
+                        overflow: &[offset, length],
+                        storage: &storage,
+                        lent: ROW + 3,
+                    })?;
                 }
             }
         }
@@ -385,17 +325,14 @@ fn overflow_order(run: &mut Run) -> Compared {
             let entries: Vec<u32> = (0..strings).map(entry).collect();
             for words in 0..=2 * strings as usize + 2 {
                 for count in [strings.saturating_sub(1), strings, strings + 1] {
-                    decode(
-                        run,
-                        strings::Case {
-                            count,
-                            kinds: &[2, IDENTIFIER + 2, 9],
-                            small: &entries,
-                            overflow: &pairs[..words],
-                            storage: &storage,
-                            lent: 6 * ROW,
-                        },
-                    )?;
+                    run.compare(&strings::Case {
+                        count,
+                        kinds: &[2, IDENTIFIER + 2, 9],
+                        small: &entries,
+                        overflow: &pairs[..words],
+                        storage: &storage,
+                        lent: 6 * ROW,
+                    })?;
                 }
             }
         }
@@ -416,17 +353,14 @@ fn lent_rows(run: &mut Run) -> Compared {
             for lent in 0..=(entries.len() + 2) * ROW {
                 for count in [0, 1, 3, strings as u32, u32::MAX] {
                     for overflow in [&[][..], &[7, 2]] {
-                        decode(
-                            run,
-                            strings::Case {
-                                count,
-                                kinds: &[IDENTIFIER + 3],
-                                small: &entries,
-                                overflow,
-                                storage: &storage,
-                                lent,
-                            },
-                        )?;
+                        run.compare(&strings::Case {
+                            count,
+                            kinds: &[IDENTIFIER + 3],
+                            small: &entries,
+                            overflow,
+                            storage: &storage,
+                            lent,
+                        })?;
                     }
                 }
             }
@@ -439,16 +373,9 @@ fn lent_rows(run: &mut Run) -> Compared {
 /// byte more than 2^30 is refused 1.
 fn long_storages(run: &mut Run) -> Compared {
     let mut random = run.random(6);
-    for len in [
-        300,
-        70_000,
-        (1 << 23) - 2,
-        (1 << 23) - 1,
-        1 << 23,
-        (1 << 23) + 100,
-        LIMIT,
-        LIMIT + 1,
-    ] {
+    for len in
+        [300, 70_000, (1 << 23) - 2, (1 << 23) - 1, 1 << 23, (1 << 23) + 100, LIMIT, LIMIT + 1]
+    {
         let mut storage = vec![0; len];
         let (begin, end) = (len.min(600), len - len.min(600));
         let edges = [0..begin, end..len];
@@ -470,17 +397,14 @@ fn long_storages(run: &mut Run) -> Compared {
                 }
             }
             for lent in [0, entries.len() * ROW - 1, entries.len() * ROW] {
-                decode(
-                    run,
-                    strings::Case {
-                        count: entries.len() as u32,
-                        kinds: &[3, IDENTIFIER + 5, 0, IDENTIFIER, 40],
-                        small: &entries,
-                        overflow: &pairs,
-                        storage: &storage,
-                        lent,
-                    },
-                )?;
+                run.compare(&strings::Case {
+                    count: entries.len() as u32,
+                    kinds: &[3, IDENTIFIER + 5, 0, IDENTIFIER, 40],
+                    small: &entries,
+                    overflow: &pairs,
+                    storage: &storage,
+                    lent,
+                })?;
             }
         }
     }
@@ -499,23 +423,16 @@ fn parts(run: &mut Run) -> Compared {
                 for invalid in [0, 1, 2, 1 << 31, u32::MAX] {
                     for marks in [0, 3, u32::MAX] {
                         let row = [start, length, invalid, marks];
-                        part(run, &storage, &row, 0)?;
+                        run.compare(&part(&storage, &row, 0))?;
                     }
                 }
             }
         }
         let rows: Vec<u32> = (0..4).flat_map(|i| [i, 2, i & 1, 0]).collect();
-        let far = [
-            1 << 30,
-            1 << 32,
-            1 << 62,
-            (1 << 62) + 1,
-            1 << 63,
-            usize::MAX,
-        ];
+        let far = [1 << 30, 1 << 32, 1 << 62, (1 << 62) + 1, 1 << 63, usize::MAX];
         for words in 0..=rows.len() {
             for index in (0..=5).chain(far) {
-                part(run, &storage, &rows[..words], index)?;
+                run.compare(&part(&storage, &rows[..words], index))?;
             }
         }
     }
@@ -523,7 +440,7 @@ fn parts(run: &mut Run) -> Compared {
     let end = storage.len() as u32;
     for start in [0, 1, end - 1, end, end + 1] {
         for length in [0, 1, 2, end - 1, end, end + 1, u32::MAX] {
-            part(run, &storage, &[start, length, 0, 0], 0)?;
+            run.compare(&part(&storage, &[start, length, 0, 0], 0))?;
         }
     }
     Ok(())
@@ -532,13 +449,11 @@ fn parts(run: &mut Run) -> Compared {
 /// All words of the longest file at once, and as many from one byte on, of which the last is cut.
 fn whole_file(run: &mut Run) -> Compared {
     let mut random = run.random(7);
-    let input: Vec<u8> = (0..LIMIT / 8)
-        .flat_map(|_| random.word().to_le_bytes())
-        .collect();
+    let input: Vec<u8> = (0..LIMIT / 8).flat_map(|_| random.word().to_le_bytes()).collect();
     for op in OPS {
         let all = LIMIT / 4 / op.width();
         for (at, count) in [(0, all), (1, all)] {
-            read(run, op, &input, at, count as u32, count * op.width())?;
+            run.compare(&read(op, &input, at, count as u32, count * op.width()))?;
         }
     }
     Ok(())
@@ -552,17 +467,14 @@ fn longest_strings(run: &mut Run) -> Compared {
     let end = LIMIT as u32;
     for [offset, length] in [[0, end], [0, end + 2]] {
         for utf16 in [false, true] {
-            decode(
-                run,
-                strings::Case {
-                    count: 1,
-                    kinds: &[],
-                    small: &[small(utf16, 0, 255)],
-                    overflow: &[offset, if utf16 { length / 2 } else { length }],
-                    storage: &storage,
-                    lent: ROW,
-                },
-            )?;
+            run.compare(&strings::Case {
+                count: 1,
+                kinds: &[],
+                small: &[small(utf16, 0, 255)],
+                overflow: &[offset, if utf16 { length / 2 } else { length }],
+                storage: &storage,
+                lent: ROW,
+            })?;
         }
     }
     Ok(())
@@ -580,28 +492,20 @@ fn most_strings(run: &mut Run) -> Compared {
             pairs.extend([(word >> 8) as u32 % (16 << 20), (word >> 40) as u32 % 600]);
             return word as u32 | 0xFF00_0000;
         }
-        small(
-            word >> 6 & 1 == 1,
-            (word >> 8) as u32 % (1 << 23),
-            (word >> 32) as u32 % 40,
-        )
+        small(word >> 6 & 1 == 1, (word >> 8) as u32 % (1 << 23), (word >> 32) as u32 % 40)
     };
     let entries: Vec<u32> = (0..strings).map(|_| entry()).collect();
-    let kinds: Vec<u32> = (0..strings / 50)
-        .map(|_| random.word() as u32 & (IDENTIFIER | 127))
-        .collect();
+    let kinds: Vec<u32> =
+        (0..strings / 50).map(|_| random.word() as u32 & (IDENTIFIER | 127)).collect();
     for words in [pairs.len(), pairs.len() - 2] {
-        decode(
-            run,
-            strings::Case {
-                count: u32::MAX,
-                kinds: &kinds,
-                small: &entries,
-                overflow: &pairs[..words],
-                storage: &storage,
-                lent: strings * ROW + 3,
-            },
-        )?;
+        run.compare(&strings::Case {
+            count: u32::MAX,
+            kinds: &kinds,
+            small: &entries,
+            overflow: &pairs[..words],
+            storage: &storage,
+            lent: strings * ROW + 3,
+        })?;
     }
     Ok(())
 }
@@ -611,7 +515,7 @@ fn random(run: &mut Run) -> Compared {
     while run.more() {
         any_read(run, &mut random)?;
         for _ in 0..4 {
-            decode(run, any_case(&mut random).case())?;
+            run.compare(&any_case(&mut random).case())?;
         }
     }
     Ok(())
@@ -641,7 +545,7 @@ fn any_read(run: &mut Run, random: &mut Random) -> Compared {
             1 => fits,
             _ => fits + random.below(8),
         };
-        read(run, op, &input, at, count, lent)?;
+        run.compare(&read(op, &input, at, count, lent))?;
     }
     Ok(())
 }
@@ -708,29 +612,14 @@ pub fn any_case(random: &mut Random) -> Made {
         0 => random.below(strings * ROW + 1),
         _ => strings * ROW + random.below(9),
     };
-    Made {
-        count,
-        kinds,
-        entries,
-        pairs,
-        storage,
-        lent,
-    }
+    Made { count, kinds, entries, pairs, storage, lent }
 }
 
 fn any_storage(random: &mut Random) -> Vec<u8> {
     let most = random.pick(&[0, 3, 40, 300]);
     let len = random.below(most + 1);
-    let letters = [
-        'a',
-        '<',
-        '\u{E9}',
-        '\u{20AC}',
-        '\u{D7FF}',
-        '\u{FFFD}',
-        '\u{10000}',
-        '\u{10FFFF}',
-    ];
+    let letters =
+        ['a', '<', '\u{E9}', '\u{20AC}', '\u{D7FF}', '\u{FFFD}', '\u{10000}', '\u{10FFFF}'];
     let mut storage = Vec::with_capacity(len + 4);
     let flavour = random.below(5);
     while storage.len() < len {
@@ -738,14 +627,10 @@ fn any_storage(random: &mut Random) -> Vec<u8> {
         match flavour {
             0 => storage.push(random.byte()),
             1 => storage.extend(letter.encode_utf8(&mut [0; 4]).bytes()),
-            2 => storage.extend(bytes_of(
-                &[0xDC00_D800, 0xD800_DC00, 0xDFFF_DBFF][random.below(3)..][..1],
-            )),
+            2 => storage
+                .extend(bytes_of(&[0xDC00_D800, 0xD800_DC00, 0xDFFF_DBFF][random.below(3)..][..1])),
             3 => storage.extend(
-                letter
-                    .encode_utf16(&mut [0; 2])
-                    .iter()
-                    .flat_map(|unit| unit.to_le_bytes()),
+                letter.encode_utf16(&mut [0; 2]).iter().flat_map(|unit| unit.to_le_bytes()),
             ),
             _ => storage
                 .push(random.pick(&[0xC3, 0xA9, 0xE2, 0x82, 0xAC, 0xF0, 0x9F, 0xED, 0xA0, b'a'])),

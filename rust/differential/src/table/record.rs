@@ -2,11 +2,11 @@
 
 use harness::Random;
 
+use super::case::reads::{self, Op, OPS};
+use super::case::strings::{self, right_bytes, ROW};
 use super::groups::{any_case, small, IDENTIFIER};
-use super::reads::{self, Op, OPS};
-use super::strings::{self, right_bytes, ROW};
+use crate::inputs::any_bytes;
 use crate::record::{Fields, Sample, FILL};
-use crate::words::any_bytes;
 
 const NAMES: [&str; 4] = [
     "read_u32_table",
@@ -43,7 +43,7 @@ fn read(sample: &mut Sample, op: Op, input: &[u8], at: usize, count: u32, lent: 
         count,
         lent,
     };
-    let mut right = case.right();
+    let mut right = case.readers();
     let (answer, words) = right.pop().expect("a reader");
     assert!(right
         .iter()
@@ -65,7 +65,7 @@ fn decode(sample: &mut Sample, case: strings::Case) {
     assert!(case.lent <= MOST_LENT);
     let given = [case.kinds, case.small, case.overflow];
     assert!(given.iter().all(|words| words.len() <= MOST_GIVEN));
-    let right = case.right(0);
+    let right = case.decoded(0);
     if let Ok((words, texts)) = &right {
         for (i, (row, text)) in words.chunks(ROW).zip(texts).enumerate() {
             case.reads(i, row, text).expect("the Rust's text");
@@ -107,7 +107,7 @@ pub fn write(mut random: Random) -> (Vec<u8>, Vec<String>) {
     sample.done(answers)
 }
 
-/// P6 and P7 of document 01, and the smallest reads that it and the Rust leave at different cursors.
+/// P6 and P7 of docs/FORMAT.md, section 10.1, and the smallest reads that it and the Rust leave at different cursors.
 fn worked(sample: &mut Sample) {
     let p6 = strings::Case {
         count: 2,
@@ -117,7 +117,7 @@ fn worked(sample: &mut Sample) {
         storage: b"abcd",
         lent: 2 * ROW,
     };
-    let rows = p6.right(0).expect("two strings").0;
+    let rows = p6.decoded(0).expect("two strings").0;
     assert_eq!(rows, [3, 0, 0, 0, 0, 0, 1, 0]);
     decode(sample, p6);
     let p7 = strings::Case {
@@ -127,7 +127,7 @@ fn worked(sample: &mut Sample) {
         lent: 3 * ROW,
         ..p6
     };
-    let rows = p7.right(0).expect("three strings").0;
+    let rows = p7.decoded(0).expect("three strings").0;
     assert_eq!([rows[3], rows[7], rows[11]], [0, 2, 0]);
     decode(sample, p7);
     read(sample, Op::U32Table, &[1, 2, 3, 4], 0, 2, 2);
@@ -298,7 +298,7 @@ fn any(sample: &mut Sample, random: &mut Random) {
         return;
     }
     decode(sample, case);
-    if let Ok((rows, _)) = case.right(0) {
+    if let Ok((rows, _)) = case.decoded(0) {
         let index = random.below(rows.len() / ROW + 1);
         span(sample, case.storage, &rows, index);
     }

@@ -44,7 +44,7 @@ use Rattle.hbc_io.specs.declared.Cursor.{Cursor}
 use Rattle.hbc_io_leb.specs.Leb.{lebBytes}
 use Rattle.hbc_io_leb.specs.Answers.{ulebOf}
 use Rattle.hbc_io_leb.specs.declared.Uleb.{Uleb}
-use Rattle.hbc_io_leb.specs.Answers.{ofUleb}
+use Rattle.hbc_io_leb.specs.Answers.{saysUleb}
 use Rattle.hbc_io_leb.specs.declared.ReadUleb.{ReadUleb}
 use Rattle.hbc_reader.specs.Reader.{bytesOf, cursorOf, movedTo, after, Reads}
 use Rattle.hbc_reader.specs.declared.ByteReader.{ByteReader}
@@ -107,7 +107,7 @@ module _ {M : Type 1} (𝓤 : URA M) (H : Heap 𝓤) (A : Atoms 𝓤) (W : Given
   f = λ s c. valued ulebOf (lebBytes s c)
 
   abbrev Said : ReadUleb → Type 0
-  Said r = ofUleb r ≡ f (bytesOf h) (cursorOf h)
+  Said r = saysUleb r ≡ f (bytesOf h) (cursorOf h)
 
   -- what is passed to `uleb_at`, and what it asks
   abbrev passed : Vals work.signature (κ′, tt)
@@ -136,13 +136,13 @@ module _ {M : Type 1} (𝓤 : URA M) (H : Heap 𝓤) (A : Atoms 𝓤) (W : Given
   placed : (r : ReadUleb) (u : Val) → ent 𝓤 (sem 𝓤 H A (S.the-row .own r (u ∷ []))) (Place 𝓤 H A at-mem run .pre (to-place r u))
   placed r u = qed W (‵ (S.the-row .own r (u ∷ [])) ∷ []) ∵ nothing ! $ move ! (1 ∷ 0 ∷ []) $ fjoin ! $ nothing ! $ join ! $ frame ! $ done !
 
-  place-said : (r : ReadUleb) (m : ℕ) → ent 𝓤 (ensured 𝓤 H A place.ended (place.clauses 𝓤 H A at-mem run) tt (r, tt) tt m) (fact 𝓤 (m ≡ after (ofUleb r)))
-  place-said r m = exE 𝓤 _ (λ ws. snd∗ 𝓤 (sem 𝓤 H A (lasts place.ended tt (r, tt) ws)) (fact 𝓤 (m ≡ after (ofUleb r))))
+  place-said : (r : ReadUleb) (m : ℕ) → ent 𝓤 (ensured 𝓤 H A place.ended (place.clauses 𝓤 H A at-mem run) tt (r, tt) tt m) (fact 𝓤 (m ≡ after (saysUleb r)))
+  place-said r m = exE 𝓤 _ (λ ws. snd∗ 𝓤 (sem 𝓤 H A (lasts place.ended tt (r, tt) ws)) (fact 𝓤 (m ≡ after (saysUleb r))))
 
-  told : (r : ReadUleb) (m : ℕ) → Said r → m ≡ after (ofUleb r) → Reads f h (ofUleb r) (movedTo h m)
+  told : (r : ReadUleb) (m : ℕ) → Said r → m ≡ after (saysUleb r) → Reads f h (saysUleb r) (movedTo h m)
   told r m e e′ = record { says = e; leaves = ap (movedTo h) (e′ ∙ ap after e) }
 
-  exits : (r : ReadUleb) (u : Val) (m : ℕ) → Said r → m ≡ after (ofUleb r) → ent 𝓤 (⋆ 𝓤 H A (‵ (fobs γ (R κ′ .coded .code (movedTo h m))) ∷ ‵ (fbor κ (Body (mem (R κ′)) b o γ)) ∷ ‵ (flft κ q) ∷ (‵ (flft κ′ q′) ⊛ ‵ ftrue) ∷ ‵ (S.the-row .own r (u ∷ [])) ∷ [])) (Post u)
+  exits : (r : ReadUleb) (u : Val) (m : ℕ) → Said r → m ≡ after (saysUleb r) → ent 𝓤 (⋆ 𝓤 H A (‵ (fobs γ (R κ′ .coded .code (movedTo h m))) ∷ ‵ (fbor κ (Body (mem (R κ′)) b o γ)) ∷ ‵ (flft κ q) ∷ (‵ (flft κ′ q′) ⊛ ‵ ftrue) ∷ ‵ (S.the-row .own r (u ∷ [])) ∷ [])) (Post u)
   exits r u m e e′ =
       qed W (‵ (fobs γ (R κ′ .coded .code (movedTo h m))) ∷ ‵ (fbor κ (Body (mem (R κ′)) b o γ)) ∷ ‵ (flft κ q) ∷ (‵ (flft κ′ q′) ⊛ ‵ ftrue) ∷ ‵ (S.the-row .own r (u ∷ [])) ∷ []) ∵
       suffices ! _ (ends-at 𝓤 H A its.ended stayed (its.clauses 𝓤 H A at-mem run) W bound u r (movedTo h m, tt) (tt, tt)) $ says ! (told r m e e′) $
@@ -174,7 +174,7 @@ module _ {M : Type 1} (𝓤 : URA M) (H : Heap 𝓤) (A : Atoms 𝓤) (W : Given
         use1 W (raw (Place 𝓤 H A at-mem run .pre (to-place r u))) (placed r u) $
         calls-at ! fm (Place 𝓤 H A at-mem run) known-place (to-place r u) (and-then ! (load ! (from ! (stop !)) (look ! 13 refl)) (no-more !)) (λ w.
         use1 W (later (some (λ (m : ℕ). (‵ ftrue ⊛ ‵ (usize .own m (w ∷ []))) ⊛ raw (ensured 𝓤 H A place.ended (place.clauses 𝓤 H A at-mem run) tt (r, tt) tt m)))) (id⊢ 𝓤 _) $ await ! tt $ pick ! (λ m.
-        split ! $ move ! (1 ∷ []) $ use1 W (raw (fact 𝓤 (m ≡ after (ofUleb r)))) (place-said r m) $ heard ! (m ≡ after (ofUleb r)) (λ e′. split ! $ move ! (1 ∷ []) $
+        split ! $ move ! (1 ∷ []) $ use1 W (raw (fact 𝓤 (m ≡ after (saysUleb r)))) (place-said r m) $ heard ! (m ≡ after (saysUleb r)) (λ e′. split ! $ move ! (1 ∷ []) $
         peeks ! usize (Is usize) (shows 𝓤 H A usize) m (w ∷ []) (λ to.
         land ! (from ! (stop !)) (store ! 10 refl (uint-lawful 𝓤 H A W w64 .typed m _ to .0)) $ rewrite ! 10 (λ (y : Val). ‵ (fat fullShare (tyInt w64) l₄ 0 y)) (ap only (to .0)) refl $
         -- [the place; …; the answer; 'a's token; what the reader owns; its cell; the open borrow; obs; auth; …; the locals]: the place is stored, the answer is the result

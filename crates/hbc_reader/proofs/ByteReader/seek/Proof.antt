@@ -43,7 +43,7 @@ use denote.Exit.{yes}
 use Rattle.hbc_io.specs.Outcome.{Outcome}
 use Rattle.hbc_io.specs.declared.Cursor.{Cursor}
 use Rattle.hbc_io.specs.Plain.{seekTo}
-use Rattle.hbc_io.specs.Answers.{ofMoved}
+use Rattle.hbc_io.specs.Answers.{saysMoved}
 use Rattle.hbc_io.specs.declared.Moved.{Moved}
 use Rattle.hbc_reader.specs.Reader.{bytesOf, cursorOf, movedTo, after, Reads}
 use Rattle.hbc_reader.specs.declared.ByteReader.{ByteReader}
@@ -106,7 +106,7 @@ module _ {M : Type 1} (𝓤 : URA M) (H : Heap 𝓤) (A : Atoms 𝓤) (W : Given
   f = λ s c. seekTo s c n
 
   abbrev Said : Moved → Type 0
-  Said r = ofMoved r ≡ f (bytesOf h) (cursorOf h)
+  Said r = saysMoved r ≡ f (bytesOf h) (cursorOf h)
 
   -- what is passed to `seek_at`, and what it asks
   abbrev passed : Vals work.signature (κ′, tt)
@@ -135,13 +135,13 @@ module _ {M : Type 1} (𝓤 : URA M) (H : Heap 𝓤) (A : Atoms 𝓤) (W : Given
   placed : (r : Moved) (u : Val) → ent 𝓤 (sem 𝓤 H A (S.the-row .own r (u ∷ []))) (Place 𝓤 H A at-mem run .pre (to-place r u))
   placed r u = qed W (‵ (S.the-row .own r (u ∷ [])) ∷ []) ∵ nothing ! $ move ! (1 ∷ 0 ∷ []) $ fjoin ! $ nothing ! $ join ! $ frame ! $ done !
 
-  place-said : (r : Moved) (m : ℕ) → ent 𝓤 (ensured 𝓤 H A place.ended (place.clauses 𝓤 H A at-mem run) tt (r, tt) tt m) (fact 𝓤 (m ≡ after (ofMoved r)))
-  place-said r m = exE 𝓤 _ (λ ws. snd∗ 𝓤 (sem 𝓤 H A (lasts place.ended tt (r, tt) ws)) (fact 𝓤 (m ≡ after (ofMoved r))))
+  place-said : (r : Moved) (m : ℕ) → ent 𝓤 (ensured 𝓤 H A place.ended (place.clauses 𝓤 H A at-mem run) tt (r, tt) tt m) (fact 𝓤 (m ≡ after (saysMoved r)))
+  place-said r m = exE 𝓤 _ (λ ws. snd∗ 𝓤 (sem 𝓤 H A (lasts place.ended tt (r, tt) ws)) (fact 𝓤 (m ≡ after (saysMoved r))))
 
-  told : (r : Moved) (m : ℕ) → Said r → m ≡ after (ofMoved r) → Reads f h (ofMoved r) (movedTo h m)
+  told : (r : Moved) (m : ℕ) → Said r → m ≡ after (saysMoved r) → Reads f h (saysMoved r) (movedTo h m)
   told r m e e′ = record { says = e; leaves = ap (movedTo h) (e′ ∙ ap after e) }
 
-  exits : (r : Moved) (u : Val) (m : ℕ) → Said r → m ≡ after (ofMoved r) → ent 𝓤 (⋆ 𝓤 H A (‵ (fobs γ (R κ′ .coded .code (movedTo h m))) ∷ ‵ (fbor κ (Body (mem (R κ′)) b o γ)) ∷ ‵ (flft κ q) ∷ (‵ (flft κ′ q′) ⊛ ‵ ftrue) ∷ ‵ (S.the-row .own r (u ∷ [])) ∷ [])) (Post u)
+  exits : (r : Moved) (u : Val) (m : ℕ) → Said r → m ≡ after (saysMoved r) → ent 𝓤 (⋆ 𝓤 H A (‵ (fobs γ (R κ′ .coded .code (movedTo h m))) ∷ ‵ (fbor κ (Body (mem (R κ′)) b o γ)) ∷ ‵ (flft κ q) ∷ (‵ (flft κ′ q′) ⊛ ‵ ftrue) ∷ ‵ (S.the-row .own r (u ∷ [])) ∷ [])) (Post u)
   exits r u m e e′ =
       qed W (‵ (fobs γ (R κ′ .coded .code (movedTo h m))) ∷ ‵ (fbor κ (Body (mem (R κ′)) b o γ)) ∷ ‵ (flft κ q) ∷ (‵ (flft κ′ q′) ⊛ ‵ ftrue) ∷ ‵ (S.the-row .own r (u ∷ [])) ∷ []) ∵
       suffices ! _ (ends-at 𝓤 H A its.ended stayed (its.clauses 𝓤 H A at-mem run) W bound u r (movedTo h m, (tt, tt)) (tt, (tt, tt))) $ says ! (told r m e e′) $
@@ -173,7 +173,7 @@ module _ {M : Type 1} (𝓤 : URA M) (H : Heap 𝓤) (A : Atoms 𝓤) (W : Given
         use1 W (raw (Place 𝓤 H A at-mem run .pre (to-place r u))) (placed r u) $
         calls-at ! fm (Place 𝓤 H A at-mem run) known-place (to-place r u) (and-then ! (load ! (from ! (stop !)) (look ! 13 refl)) (no-more !)) (λ w.
         use1 W (later (some (λ (m : ℕ). (‵ ftrue ⊛ ‵ (usize .own m (w ∷ []))) ⊛ raw (ensured 𝓤 H A place.ended (place.clauses 𝓤 H A at-mem run) tt (r, tt) tt m)))) (id⊢ 𝓤 _) $ await ! tt $ pick ! (λ m.
-        split ! $ move ! (1 ∷ []) $ use1 W (raw (fact 𝓤 (m ≡ after (ofMoved r)))) (place-said r m) $ heard ! (m ≡ after (ofMoved r)) (λ e′. split ! $ move ! (1 ∷ []) $
+        split ! $ move ! (1 ∷ []) $ use1 W (raw (fact 𝓤 (m ≡ after (saysMoved r)))) (place-said r m) $ heard ! (m ≡ after (saysMoved r)) (λ e′. split ! $ move ! (1 ∷ []) $
         peeks ! usize (Is usize) (shows 𝓤 H A usize) m (w ∷ []) (λ to.
         land ! (from ! (stop !)) (store ! 10 refl (uint-lawful 𝓤 H A W w64 .typed m _ to .0)) $ rewrite ! 10 (λ (y : Val). ‵ (fat fullShare (tyInt w64) l₅ 0 y)) (ap only (to .0)) refl $
         -- [the place; …; the answer; 'a's token; what the reader owns; its cell; the open borrow; obs; auth; …; the locals]: the place is stored, the answer is the result

@@ -1,12 +1,13 @@
 //! Sections with many rows, as files have them.
 
+use bisquepond::sys::LIMIT;
 use harness::Random;
 
-use super::super::ROWS;
-use super::{on, sleb, Compared, Section};
-use crate::io::LIMIT;
+use super::{on, Section};
+use crate::case::Compared;
+use crate::debug::case::ROWS;
+use crate::inputs::{any_words, sleb};
 use crate::run::Run;
-use crate::words::any_words;
 
 /// The order of callees.
 #[derive(Clone, Copy)]
@@ -96,12 +97,7 @@ fn lent(run: &mut Run, random: &mut Random, sizes: &Sizes) -> Compared {
 
 pub fn many(run: &mut Run) -> Compared {
     let mut random = run.random(16);
-    let sizes = |strings, scopes, callees, order| Sizes {
-        strings,
-        scopes,
-        callees,
-        order,
-    };
+    let sizes = |strings, scopes, callees, order| Sizes { strings, scopes, callees, order };
     let some = [
         sizes(70_000, 0, 0, Order::Rising),
         sizes(300, 20_000, 0, Order::Rising),

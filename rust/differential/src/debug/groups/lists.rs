@@ -2,29 +2,15 @@
 
 use harness::Random;
 
-use super::super::ROWS;
-use super::{good, on, sleb, Compared, Section};
+use super::{good, on, parts_alone as section, Section};
+use crate::case::{code, Compared};
+use crate::debug::case::ROWS;
+use crate::inputs::{any_words, sleb, uleb};
 use crate::run::Run;
-use crate::words::{any_words, code};
 
 /// Enough for the lists here, which are shorter than those of `plenty`.
 fn some(random: &mut Random, rows: usize) -> [Vec<u32>; 4] {
     ROWS.map(|row| any_words(random, rows * row))
-}
-
-/// A length in as few bytes as it needs, or in `len` bytes.
-fn uleb(value: u64, len: usize) -> Vec<u8> {
-    let mut bytes = Vec::new();
-    let mut rest = value;
-    loop {
-        let byte = rest as u8 & 0x7F;
-        rest >>= 7;
-        if bytes.len() + 1 >= len && rest == 0 {
-            bytes.push(byte);
-            return bytes;
-        }
-        bytes.push(byte | 0x80);
-    }
 }
 
 /// The same signed number, in some more bytes.
@@ -37,19 +23,6 @@ fn stretched(number: &[u8], more: usize) -> Vec<u8> {
         bytes.push(sign);
     }
     bytes
-}
-
-fn section(scopes: &[u8], callees: &[u8], strings: &[u8]) -> Section {
-    Section {
-        before: 1,
-        filenames: 0,
-        storage: 0,
-        regions: 0,
-        lines: 0,
-        scopes: vec![scopes.to_vec()],
-        callees: vec![callees.to_vec()],
-        strings: vec![strings.to_vec()],
-    }
 }
 
 fn part(section: &mut Section, i: usize) -> &mut Vec<Vec<u8>> {

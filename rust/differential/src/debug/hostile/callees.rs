@@ -1,12 +1,14 @@
 //! Callees in orders that are made to take long. Addresses that don't rise are gone through in passes, so that their
 //! limit is by passes: docs/PERFORMANCE.md says why.
 
+use bisquepond::sys::LIMIT;
 use harness::Random;
 
-use super::{compare, header, same, OFFSET};
-use crate::debug::call;
-use crate::hostile::{ten, Compared, Size, Soak};
-use crate::io::LIMIT;
+use super::{compare, header, same, NO_WORDS, OFFSET};
+use crate::case::Compared;
+use crate::debug::case::make as call;
+use crate::hostile::{rows_are, size, Soak};
+use crate::inputs::ten;
 
 /// An order, and the address of entry `i` where there are at most `most`.
 type Order = (&'static str, fn(&mut Random, usize, usize) -> u32);
@@ -15,9 +17,7 @@ const ORDERS: [Order; 7] = [
     ("rising", |_, i, _| i as u32),
     ("all equal", |_, _, _| 7),
     ("two in turn", |_, i, _| [14, 7][i % 2]),
-    ("rising, the last ones first", |_, i, most| {
-        (i + most / 16) as u32 % (most / 8) as u32
-    }),
+    ("rising, the last ones first", |_, i, most| (i + most / 16) as u32 % (most / 8) as u32),
     ("random", |random, _, most| random.below(most) as u32),
     ("spread over 32 bits", |random, _, _| random.word() as u32),
     ("falling", |_, i, most| (most - i) as u32),
@@ -42,14 +42,10 @@ pub fn soak(soak: &mut Soak) -> Compared {
         for order in ORDERS {
             let mut random = soak.random(6);
             let passes = bytes / 4 / KEPT + 1;
-            let size = Size {
-                work: 2 * bytes * passes,
-                memory: 60 * bytes,
-            };
             let name = format!("callees {}, 2^{power} bytes", order.0);
-            soak.case(&name, size, |file| {
+            soak.case(&name, size(2 * bytes * passes, 60 * bytes), |file| {
                 let entries = make(file, bytes, order, &mut random);
-                compare(file, &[2, 0, 0, 2 * entries].map(|words| vec![7; words]))
+                compare(file, [2, 0, 0, 2 * entries])
             })?;
         }
     }
@@ -85,38 +81,24 @@ fn sleb(file: &mut Vec<u8>, mut address: u32) {
 /// Rows that are known without the Rust.
 fn worked_out(soak: &mut Soak, order: Order, power: u32, passes: usize) -> Compared {
     let bytes = 1 << power;
-    let size = Size {
-        work: 2 * bytes * passes,
-        memory: 3 * bytes,
-    };
     let mut random = soak.random(7);
-    soak.case(
-        &format!("callees {}, 2^{power} bytes", order.0),
-        size,
-        |file| {
-            let entries = make(file, bytes, order, &mut random);
-            let expected: usize = match order.0 {
-                "rising" => entries,
-                "all equal" => 1,
-                _ => 2,
-            };
-            let (mut strings, mut rows) = (vec![7; 2], vec![7; 2 * expected]);
-            let none = std::ptr::NonNull::dangling().as_ptr();
-            let tables = [
-                (strings.as_mut_ptr(), 2),
-                (none, 0),
-                (none, 0),
-                (rows.as_mut_ptr(), rows.len()),
-            ];
-            let answer = call(file, OFFSET as u32, tables);
-            let right = |i: usize| if expected == entries { i } else { 7 * (i + 1) };
-            let rows = rows.chunks_exact(2).enumerate();
-            for (i, row) in rows {
-                assert_eq!(row, [right(i) as u32, 0], "row {i}");
-            }
-            same(answer, (0, [1, 0, 0, expected]))
-        },
-    )
+    let name = format!("callees {}, 2^{power} bytes", order.0);
+    soak.case(&name, size(2 * bytes * passes, 3 * bytes), |file| {
+        let entries = make(file, bytes, order, &mut random);
+        let expected: usize = match order.0 {
+            "rising" => entries,
+            "all equal" => 1,
+            _ => 2,
+        };
+        let (mut strings, mut rows) = (vec![7; 2], vec![7; 2 * expected]);
+        let mut tables = NO_WORDS;
+        tables[0] = (strings.as_mut_ptr(), 2);
+        tables[3] = (rows.as_mut_ptr(), rows.len());
+        let answer = call(file, OFFSET as u32, tables);
+        let right = |i: usize| if expected == entries { i } else { 7 * (i + 1) };
+        rows_are(&rows, 2, |i, row| row == [right(i) as u32, 0])?;
+        same(answer, (0, [1, 0, 0, expected]))
+    })
 }
 
 /// What is known to take hours is run where all is asked for.
@@ -129,13 +111,9 @@ fn falling(soak: &mut Soak) -> Compared {
         );
         return Ok(());
     }
-    let size = Size {
-        work: 2 * LIMIT,
-        memory: 16 * LIMIT,
-    };
     let mut random = soak.random(8);
-    soak.case(&name, size, |file| {
+    soak.case(&name, size(2 * LIMIT, 16 * LIMIT), |file| {
         let entries = make(file, LIMIT, order, &mut random);
-        compare(file, &[2, 0, 0, 2 * entries].map(|words| vec![7; words]))
+        compare(file, [2, 0, 0, 2 * entries])
     })
 }

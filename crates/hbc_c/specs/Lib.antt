@@ -1,8 +1,0 @@
-pub mod Code
-pub mod Io
-pub mod Function
-pub mod FunctionLaws
-pub mod Table
-pub mod Buffer
-pub mod Parsing
-pub mod Debug

@@ -1,0 +1,2 @@
+pub mod ByLayouts
+pub mod OneRow

@@ -1,0 +1,42 @@
+use mathlib.Core.Path.{refl}
+use Rattle.hbc_c_code.proofs.Tolds.{told-by}
+use borrow.Author.Needs.{needs}
+use Rattle.hbc_c_function.proofs.read_table.Statement.{statement}
+use Rattle.hbc_c_function.proofs.read_table.Tie as tie
+
+read-functions-requires : tie.Need-read-functions-requires
+read-functions-requires c κs = search needs
+
+enum-told : tie.Need-enum-told
+enum-told c = search needs
+
+enum-known-r : tie.Need-enum-known-r
+enum-known-r c = search needs
+
+code-requires : tie.Need-code-requires
+code-requires c κs = search needs
+
+same-length : tie.Need-same-length
+same-length c = search needs
+
+returns : tie.Need-returns
+returns c = told-by (c .before .before .before .before .read-functions .ensures) (c .enum-told .given .1) refl
+
+same-length-2 : tie.Need-same-length-2
+same-length-2 c = search needs
+
+returns-2 : tie.Need-returns-2
+returns-2 c = told-by (c .before .before .before .before .before .before .read-functions .ensures) (c .before .before .r .given .1) (c .code .ensures)
+
+pub read-table-spec : {M : Type 1} → statement M
+read-table-spec =
+    tie.close
+    (tie.spec
+    read-functions-requires
+    enum-told
+    enum-known-r
+    code-requires
+    same-length
+    returns
+    same-length-2
+    returns-2)

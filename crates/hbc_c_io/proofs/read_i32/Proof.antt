@@ -1,0 +1,31 @@
+use mir.Syntax.{w32}
+use mir.ValLaws.{toZ-ofZ}
+use Rattle.hbc_io.specs.Answers.{saysI32}
+use Rattle.hbc_io.proofs.Reading.{found}
+use Rattle.hbc_c_code.proofs.Tolds.{read-got, read-refused}
+use borrow.Author.Needs.{needs}
+use Rattle.hbc_c_io.proofs.read_i32.Statement.{statement}
+use Rattle.hbc_c_io.proofs.read_i32.Tie as tie
+
+read-i32-requires : tie.Need-read-i32-requires
+read-i32-requires c κs = search needs
+
+enum-known-v : tie.Need-enum-known-v
+enum-known-v c = search needs
+
+enum-known-r : tie.Need-enum-known-r
+enum-known-r c = search needs
+
+code-requires : tie.Need-code-requires
+code-requires c κs = search needs
+
+returns : tie.Need-returns
+returns c = rw (toZ-ofZ w32 (c .before .v .given .0 .0) (search needs)) (read-got (found saysI32 (c .before .before .before .read-i32 .ensures) (c .before .v .given .1)))
+
+returns-2 : tie.Need-returns-2
+returns-2 c = read-refused (found saysI32 (c .before .before .before .before .read-i32 .ensures) (c .before .before .r .given .1)) (c .code .ensures)
+
+pub read-i32-spec : {M : Type 1} → statement M
+read-i32-spec =
+    tie.close
+    (tie.spec read-i32-requires enum-known-v enum-known-r code-requires returns returns-2)

@@ -1,0 +1,24 @@
+-- The worked cases, by computation.
+use mathlib.Core.Path.{refl}
+use lib.Bits.{or-shifted}
+use lib.Dec.{lit<}
+use Rattle.hbc_claims_law.specs.Law.{All}
+use Rattle.hbc_bits.specs.Bits.{leAt, field}
+use Rattle.hbc_io.specs.Lends.{below, choose}
+use Rattle.hbc_io.specs.Plain.{plainAt}
+use Rattle.hbc_io_leb.specs.Leb.{lebBytes}
+use Rattle.hbc_function_record.specs.Record.{legacyOf, modernOf, inlineOf, legacyLarge, modernLarge, largeAt, flagsOf, overflowed, legacyPlace, modernPlace, placeOf, linkOf}
+use Rattle.hbc_function_header.specs.Header.{groundOf, whereOf, whereAt, recordAt, functionAt, readFunction}
+use Rattle.hbc_rows.specs.Rows.{entryAt, filled, putRow, putRows}
+use Rattle.hbc_table_strings.specs.Kinds.{runKind, holding, movedOn, heldAt, kindOf}
+use Rattle.hbc_table_strings.specs.Entries.{longOne, pairsTaken, pairTaken, lacksPair, pairAt, entryOf, bytesOf}
+use Rattle.hbc_table_strings.specs.Row.{rowFor, rowWith, rowOf}
+use Rattle.hbc_table_strings.specs.Strings.{scan, lesser, decodeAnswer}
+use Rattle.hbc_buffer_literal.specs.Literal.{widthOf, literalOf}
+use Rattle.hbc_buffer.specs.Series.{tagAt, headAt, runAt, step, after, valueAt, seriesAnswer}
+use Rattle.hbc_claims.specs.Cases.{cases}
+
+pub hold : All cases
+unfolding readFunction functionAt recordAt whereAt whereOf groundOf inlineOf largeAt flagsOf placeOf linkOf legacyOf modernOf legacyLarge modernLarge legacyPlace modernPlace leAt field overflowed below choose decodeAnswer lesser scan lacksPair rowOf rowWith rowFor entryOf bytesOf longOne pairsTaken pairTaken pairAt kindOf runKind movedOn heldAt holding entryAt putRow putRows seriesAnswer filled valueAt after step runAt headAt tagAt plainAt widthOf literalOf lebBytes
+hold =
+    (refl, (refl, (refl, (or-shifted 1 24 32 (lit< tt), (refl, (refl, (refl, (refl, ((refl, refl), ((refl, refl), ((refl, refl), ((refl, refl), ((refl, refl), (refl, (refl, (refl, tt))))))))))))))))

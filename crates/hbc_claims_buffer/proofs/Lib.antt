@@ -1,0 +1,5 @@
+pub mod Unique
+pub mod Refused
+pub mod Used
+pub mod Parts
+pub mod Tags

@@ -1,0 +1,5 @@
+pub mod AllRead
+pub mod Callees
+pub mod Cases
+pub mod Left
+pub mod Unique

@@ -1,0 +1,67 @@
+-- What an accepted call says of its tests, and what a refused one leaves.
+use Prim.Native.Nat.{ℕ}
+use mathlib.Core.Path.{_≡_, refl, ap, _∙_}
+use mathlib.Core.List.{List}
+use mathlib.Core.Bool.{Bool, true, false, cond}
+use lib.ListN.{length}
+use lib.Dec.{eqb}
+use borrow.Author.Tests.{ne-eqb}
+use Rattle.hbc_io.specs.declared.Refusal.{Refusal}
+use Rattle.hbc_function_record.specs.declared.Layout.{Layout}
+use Rattle.hbc_function_record.specs.declared.Record.{Record}
+use Rattle.hbc_function_header.specs.declared.Reading.the-variants as reading
+use Rattle.hbc_io.specs.Answer.{Answer, gives, refuses, asked}
+use Rattle.hbc_function_header.specs.Header.{functionAt, rowOf, rowInto}
+use Rattle.hbc_function_record.specs.Row.{width}
+use Rattle.hbc_function.specs.declared.Refreshed.the-variants as refreshed
+use Rattle.hbc_function.specs.Table.{scan, all, readAnswer, ReadFunctions}
+use Rattle.hbc_function.specs.Refresh.{refreshAnswer, RefreshFunctions}
+use Rattle.hbc_io.proofs.Exits.{reached}
+use Rattle.hbc_claims_function.proofs.Scans.{no-gives}
+use Rattle.hbc_claims_function.specs.Accepted.{Accepted, Refreshable}
+
+un-asked : {A : Type 0} (a : Answer A) → asked a ≡ gives tt → (v : A) × (a ≡ gives v)
+un-asked (gives v) e = (v, refl)
+un-asked (refuses x) e = absurd (no-gives e)
+
+pub accepted : (s : List ℕ) (layout : Layout) (start count words : ℕ) → readAnswer s layout start count words ≡ gives tt → Accepted s layout start count words
+unfolding readAnswer
+accepted s layout start count words e =
+    let p = reached _ _ _ _ no-gives e in
+    let q = reached _ _ _ _ no-gives (p .1) in
+    let r = reached _ _ _ _ no-gives (q .1) in
+    let w = un-asked (scan all (functionAt s layout start) count) (r .1) in
+    record { short = p .0; begins = q .0; holds = r .0; number = w .0; scans = w .1 }
+
+pub refreshable : (s : List ℕ) (layout : Layout) (start count low high words k : ℕ) → refreshAnswer s layout start count low high words ≡ gives k
+    → Refreshable s layout start count low high words k
+unfolding refreshAnswer
+refreshable s layout start count low high words k e =
+    let a = reached _ _ _ _ no-gives e in
+    let b = reached _ _ _ _ no-gives (a .1) in
+    let c = reached _ _ _ _ no-gives (b .1) in
+    let d = reached _ _ _ _ no-gives (c .1) in
+    let f = reached _ _ _ _ no-gives (d .1) in
+    let g = reached _ _ _ _ no-gives (f .1) in
+    record { holds = f .0; scans = g .1 }
+
+same-both : {A : Type 0} (b : Bool) (x : A) → cond b x x ≡ x
+same-both true x = refl
+same-both false x = refl
+
+-- a refusal leaves the table
+pub read-left : (s : List ℕ) (layout : Layout) (start count : ℕ) {x : Refusal} {t t′ : List ℕ} → ReadFunctions s layout start count t (reading.Refused x) t′ → t′ ≡ t
+read-left s layout start count p = p .leaves
+
+pub was-left : (s : List ℕ) (layout : Layout) (start count low high : ℕ) {x : Refusal} {t t′ : List ℕ} → RefreshFunctions s layout start count low high t (refreshed.Refused x) t′
+    → t′ ≡ t
+was-left s layout start count low high p = p .leaves
+
+-- a row of a function that is refused, and words that are not one row
+pub row-left : (a : Answer Record) (x : Refusal) (before : List ℕ) → a ≡ refuses x → rowInto a before ≡ before
+unfolding rowInto
+row-left a x before e = ap (λ (o : Answer Record). cond (eqb (length before) width) (rowOf o before) before) e ∙ same-both (eqb (length before) width) before
+
+pub no-row : (a : Answer Record) (before : List ℕ) → (length before ≡ width → ⊥) → rowInto a before ≡ before
+unfolding rowInto
+no-row a before h = rw (ne-eqb (length before) width h)

@@ -1,0 +1,11 @@
+pub mod Agree
+pub mod Function
+pub mod Words
+pub mod Scans
+pub mod Accepted
+pub mod Rows
+pub mod Meeting
+pub mod Tables
+pub mod Refreshed
+pub mod Packed
+pub mod Unique

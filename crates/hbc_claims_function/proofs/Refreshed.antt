@@ -1,0 +1,127 @@
+-- A table read from a, then refreshed with b, which is the same outside the span, is as a fresh read of b would be, in answer and in every word.
+use Prim.Native.Nat.{ℕ, _+_, _*_, _/_, _%_, _≤_, _<_}
+use mathlib.Core.Path.{_≡_, refl, ap, sym, _∙_}
+use mathlib.Core.List.{List}
+use mathlib.Core.Bool.{Bool, true, false}
+use native.Mathlib.Omega.{arith}
+use lib.ListN.{length, getD}
+use lib.Seq.{ext-getD}
+use lib.Dec.{ltb}
+use borrow.Author.Tests.{ltb-true, ltb-false}
+use Rattle.hbc_io.specs.Outcome.{limit}
+use Rattle.hbc_function_record.specs.declared.Layout.{Layout}
+use Rattle.hbc_function_record.specs.declared.Record.{Record}
+use Rattle.hbc_function_header.specs.declared.Reading.{Reading}
+use Rattle.hbc_function_header.specs.declared.Reading.the-variants as reading
+use Rattle.hbc_io.specs.Answer.{Answer, gives, asked}
+use Rattle.hbc_function_header.specs.Header.{saysReading, functionAt}
+use Rattle.hbc_function_record.specs.Row.{width}
+use Rattle.hbc_function_header.specs.Meets.{meets}
+use Rattle.hbc_function.specs.declared.Refreshed.{Refreshed}
+use Rattle.hbc_function.specs.declared.Refreshed.the-variants as refreshed
+use Rattle.hbc_function.specs.Table.{scan, putRows, all, readAnswer, ReadFunctions}
+use Rattle.hbc_function.specs.Refresh.{saysRefreshed, held, refreshAnswer, RefreshFunctions}
+use Rattle.hbc_function.proofs.Laws.{put-length, scanned, met}
+use Rattle.hbc_claims_function.specs.Agree.{Same}
+use Rattle.hbc_claims_function.proofs.Function.{function-same}
+use Rattle.hbc_claims_function.proofs.Words.{word-at, word-kept, word-past}
+use Rattle.hbc_claims_function.proofs.Scans.{no-gives, a-record, scan-each, alike, all-held}
+use Rattle.hbc_claims_function.proofs.Accepted.{accepted, refreshable}
+use Rattle.hbc_claims_function.specs.Refreshed.{AsFresh}
+
+-- ---- the answers
+
+held-same : (a b : List ℕ) (layout : Layout) (start count : ℕ) → length a ≡ length b → count ≤ held a layout start → count ≤ held b layout start
+unfolding held
+held-same a b layout start count e k = rw (← e) k
+
+-- a fresh read of b answers as the refresh does, but for the count
+pub same-answer : {a b : List ℕ} {low high : ℕ} → Same a b low high → low ≤ high → high ≤ length b → (layout : Layout) (start count words : ℕ)
+    → readAnswer a layout start count words ≡ gives tt
+    → readAnswer b layout start count words ≡ asked (refreshAnswer b layout start count low high words)
+same-answer {a} {b} {low} {high} v l h layout start count words e =
+    let p = accepted a layout start count words e in
+    let h1 : length b ≤ limit = rw (← v .long) (p .short) in
+    let h2 : start ≤ length b = rw (← v .long) (p .begins) in
+    let h6 : count ≤ held b layout start = held-same a b layout start count (v .long) (all-held a layout start count (p .number) (p .begins) (p .scans)) in
+    sym (scanned b layout start count words h1 h2 (p .holds))
+    ∙ alike (meets b layout start low high) (functionAt a layout start) (functionAt b layout start) (λ i m. function-same v i layout start m) count (p .number) (p .scans)
+    ∙ ap asked (met b layout start count low high words h1 h2 l h (p .holds) h6)
+
+-- ---- the tables
+
+-- fa's rows, and over them the chosen of fb's, are fb's rows, where fa and fb are the same but for the chosen, and all that is put can be read
+module _ (chosen : ℕ → Bool) (fa fb : ℕ → Answer Record) (same : (i : ℕ) → chosen i ≡ false → fa i ≡ fb i) (n k m : ℕ) (e : scan chosen fb n ≡ gives k)
+    (all-read : scan all fa n ≡ gives m) (t : List ℕ) (h : n * width ≤ length t) where
+  over-long : n * width ≤ length (putRows all fa t n)
+  over-long = rw (put-length all fa t n) h
+
+  over-by : (i c : ℕ) → c < width → (lt : Bool) → ltb i n ≡ lt → (b : Bool) → chosen i ≡ b
+      → getD (putRows chosen fb (putRows all fa t n) n) (i * width + c) 0 ≡ getD (putRows all fb t n) (i * width + c) 0
+  over-by i c q false l b p =
+      let o : n ≤ i = ltb-false i n l in
+      word-past chosen fb (putRows all fa t n) n i c q o ∙ word-past all fa t n i c q o ∙ sym (word-past all fb t n i c q o)
+  over-by i c q true l true p =
+      let o : i < n = ltb-true i n l in
+      let r = a-record (fb i) (scan-each chosen fb n k i o e p) in
+      word-at chosen fb (putRows all fa t n) n i c (r .0) over-long o q p (r .1) ∙ sym (word-at all fb t n i c (r .0) h o q refl (r .1))
+  over-by i c q true l false p =
+      let o : i < n = ltb-true i n l in
+      let r = a-record (fa i) (scan-each all fa n m i o all-read refl) in
+      word-kept chosen fb (putRows all fa t n) n i c q p ∙ word-at all fa t n i c (r .0) h o q refl (r .1)
+      ∙ sym (word-at all fb t n i c (r .0) h o q refl (sym (same i p) ∙ r .1))
+
+  over-word : (j : ℕ) → getD (putRows chosen fb (putRows all fa t n) n) j 0 ≡ getD (putRows all fb t n) j 0
+  over-word j =
+      let i : ℕ = j / width in
+      let c : ℕ = j % width in
+      let q : j ≡ i * width + c = omega arith in
+      rw q (over-by i c (omega arith) (ltb i n) refl (chosen i) refl)
+
+  pub over : putRows chosen fb (putRows all fa t n) n ≡ putRows all fb t n
+  over =
+      ext-getD 0 (putRows chosen fb (putRows all fa t n) n) (putRows all fb t n)
+      (put-length chosen fb (putRows all fa t n) n ∙ put-length all fa t n ∙ sym (put-length all fb t n))
+      (λ j l. over-word j)
+
+-- ---- the theorem, over the promises alone
+
+module _ {a b : List ℕ} {low high : ℕ} (v : Same a b low high) (layout : Layout) (start count : ℕ) {t t₁ t₂ t₃ : List ℕ}
+    (p : ReadFunctions a layout start count t reading.Read t₁) where
+  refreshed-is : {n : ℕ} → ReadFunctions b layout start count t reading.Read t₂ → RefreshFunctions b layout start count low high t₁ (refreshed.Done n) t₃ → t₃ ≡ t₂
+  refreshed-is {n} f g =
+      let x = accepted a layout start count (length t) (sym (p .says)) in
+      let y = refreshable b layout start count low high (length t₁) n (sym (g .says)) in
+      g .leaves ∙ ap (λ (u : List ℕ). putRows (meets b layout start low high) (functionAt b layout start) u count) (p .leaves)
+      ∙ over (meets b layout start low high) (functionAt a layout start) (functionAt b layout start) (λ i m. function-same v i layout start m) count n (x .number) (y .scans) (x .scans) t (x .holds)
+      ∙ sym (f .leaves)
+
+  by-case : (r : Reading) (q : Refreshed) → saysReading r ≡ asked (saysRefreshed q) → ReadFunctions b layout start count t r t₂
+      → RefreshFunctions b layout start count low high t₁ q t₃ → AsFresh r t₂ t₁ q t₃
+  by-case reading.Read (refreshed.Done n) e f g = record {
+    when-read = λ h. (n, refl, refreshed-is f g);
+    when-refused = λ x h. let z : _≡_ {A = ℕ} 0 1 = cc in absurd (omega arith);
+    only-read = λ m h. refl;
+    only-refused = λ x h. let z : _≡_ {A = ℕ} 0 1 = cc in absurd (omega arith);
+  }
+  by-case (reading.Refused y) (refreshed.Refused w) e f g = record {
+    when-read = λ h. let z : _≡_ {A = ℕ} 0 1 = cc in absurd (omega arith);
+    when-refused = λ x h. (cc, g .leaves);
+    only-read = λ m h. let z : _≡_ {A = ℕ} 0 1 = cc in absurd (omega arith);
+    only-refused = λ x h. cc;
+  }
+  by-case reading.Read (refreshed.Refused w) e f g = absurd (no-gives (sym e))
+  by-case (reading.Refused y) (refreshed.Done n) e f g = absurd (no-gives e)
+
+  -- one equation for the four directions
+  pub answers : {r : Reading} {q : Refreshed} → low ≤ high → high ≤ length b → ReadFunctions b layout start count t r t₂
+      → RefreshFunctions b layout start count low high t₁ q t₃ → saysReading r ≡ asked (saysRefreshed q)
+  answers l h f g =
+      let x = accepted a layout start count (length t) (sym (p .says)) in
+      let n : length t₁ ≡ length t = ap length (p .leaves) ∙ put-length all (functionAt a layout start) t count in
+      f .says ∙ same-answer v l h layout start count (length t) (sym (p .says))
+      ∙ ap (λ (m : ℕ). asked (refreshAnswer b layout start count low high m)) (sym n) ∙ ap asked (sym (g .says))
+
+  pub refreshed-as-fresh : {r : Reading} {q : Refreshed} → low ≤ high → high ≤ length b → ReadFunctions b layout start count t r t₂
+      → RefreshFunctions b layout start count low high t₁ q t₃ → AsFresh r t₂ t₁ q t₃
+  refreshed-as-fresh {r} {q} l h f g = by-case r q (answers l h f g) f g

@@ -1,0 +1,50 @@
+-- Each call leaves one outcome: its promise fixes the answer and every lent word.
+use mathlib.Core.Path.{_≡_, refl, sym}
+use Rattle.hbc_io.proofs.Exits.{alone}
+use Rattle.hbc_function_header.specs.declared.Function.{Function}
+use Rattle.hbc_function_header.specs.declared.Function.the-variants as fun
+use Rattle.hbc_function_header.specs.declared.Reading.{Reading}
+use Rattle.hbc_function_header.specs.declared.Reading.the-variants as reading
+use Rattle.hbc_function_header.specs.Header.{saysFunction, saysReading}
+use Rattle.hbc_function.specs.declared.Refreshed.{Refreshed}
+use Rattle.hbc_function.specs.declared.Refreshed.the-variants as refreshed
+use Rattle.hbc_function.specs.Refresh.{saysRefreshed}
+use Rattle.hbc_claims_function.proofs.Scans.{no-gives}
+use Rattle.hbc_claims_law.proofs.Law.{same}
+use Rattle.hbc_claims_function.specs.Unique.{Unique}
+
+-- an answer is known by what it says
+pub one-function : (a b : Function) → saysFunction a ≡ saysFunction b → a ≡ b
+one-function (fun.Read r) (fun.Read q) e = cc
+one-function (fun.Refused r) (fun.Refused q) e = cc
+one-function (fun.Read r) (fun.Refused q) e = absurd (no-gives (sym e))
+one-function (fun.Refused r) (fun.Read q) e = absurd (no-gives e)
+
+pub one-reading : (a b : Reading) → saysReading a ≡ saysReading b → a ≡ b
+one-reading reading.Read reading.Read e = refl
+one-reading (reading.Refused r) (reading.Refused q) e = cc
+one-reading reading.Read (reading.Refused q) e = absurd (no-gives (sym e))
+one-reading (reading.Refused r) reading.Read e = absurd (no-gives e)
+
+pub one-refreshed : (a b : Refreshed) → saysRefreshed a ≡ saysRefreshed b → a ≡ b
+one-refreshed (refreshed.Done r) (refreshed.Done q) e = cc
+one-refreshed (refreshed.Refused r) (refreshed.Refused q) e = cc
+one-refreshed (refreshed.Done r) (refreshed.Refused q) e = absurd (no-gives (sym e))
+one-refreshed (refreshed.Refused r) (refreshed.Done q) e = absurd (no-gives e)
+
+pub unique : Unique
+unique = record {
+  header_size = λ k a r q s u. same;
+  large_size = λ k a r q s u. same;
+  «inline_record» = λ k a r q s u. same;
+  «large_record» = λ k a r q s u. same;
+  header_link = λ k a r q s u. same;
+  row_words = λ k a r q s u. same;
+  read_function = λ k a r q s u e f. one-function r q (same e f);
+  check_function = λ k a r q s u e f. one-reading r q (same e f);
+  function_row = λ k a r q s u. same;
+  function_ground = λ k a r q s u. same;
+  function_meets = λ k a r q s u. same;
+  read_functions = λ k a r q s u. alone one-reading;
+  refresh_functions = λ k a r q s u. alone one-refreshed;
+}

@@ -1,0 +1,4 @@
+pub mod Leb128
+pub mod Left
+pub mod Reader
+pub mod Unique

@@ -1,0 +1,4 @@
+pub mod Cases
+pub mod Unique
+pub mod HandlerRows
+pub mod SectionPairs

@@ -1,0 +1,3 @@
+pub mod Unique
+pub mod Tables
+pub mod Strings

@@ -1,0 +1,101 @@
+-- docs/FORMAT.md, sections 3.5 and 3.7: one function, what it is read from, where its record is, and the record or the refusal; its row.
+use Prim.Native.Nat.{ℕ, _+_, _*_}
+use mathlib.Core.List.{List}
+use mathlib.Core.Bool.{cond}
+use lib.ListN.{length}
+use lib.Dec.{eqb}
+use Rattle.hbc_bits.specs.Bits.{leAt}
+use Rattle.hbc_io.specs.Outcome.{limit}
+use Rattle.hbc_io.specs.Answer.{Answer, gives, refuses, refusedAt}
+use Rattle.hbc_io.specs.Lends.{below}
+use Rattle.hbc_function_record.specs.declared.Layout.{Layout}
+use Rattle.hbc_function_record.specs.declared.Record.{Record}
+use Rattle.hbc_function_record.specs.declared.Link.{Link}
+use Rattle.hbc_function_record.specs.declared.Link.the-variants as link
+use Rattle.hbc_function_record.specs.Record.{sizeOf, largeOf, inlineOf, largeAt, linkOf}
+use Rattle.hbc_function_record.specs.Row.{width, rowWords}
+use Rattle.hbc_function_header.specs.declared.Function.{Function}
+use Rattle.hbc_function_header.specs.declared.Function.the-variants as fun
+use Rattle.hbc_function_header.specs.declared.Reading.{Reading}
+use Rattle.hbc_function_header.specs.declared.Reading.the-variants as reading
+use Rattle.hbc_function_header.specs.declared.Ground.{Ground}
+use Rattle.hbc_function_header.specs.declared.Ground.the-variants as ground
+use Rattle.hbc_function_header.specs.declared.Where.{Where}
+use Rattle.hbc_function_header.specs.declared.Where.the-variants as wh
+
+-- what each case of an answer says: a record, legacy or modern, with the values of its fields
+abbrev pub saysFunction : Function → Answer Record
+saysFunction (fun.Read r) = gives r
+saysFunction (fun.Refused r) = refuses r
+
+abbrev pub saysReading : Reading → Answer (Unit {0})
+saysReading reading.Read = gives tt
+saysReading (reading.Refused r) = refuses r
+
+-- where the header of function i starts, in a table at start
+abbrev pub headerAt : Layout → ℕ → ℕ → ℕ
+headerAt layout start i = start + i * sizeOf layout
+
+-- ---- what a function is read from
+
+-- its own bytes, from a place, and, if flagged, those of a large header at its packed place
+abbrev pub groundBy : ℕ → Link → Ground
+groundBy at link.Own = ground.Inline at
+groundBy at (link.Large place) = ground.Large at place
+
+-- nothing where its own bytes are not in the file
+unfoldable pub groundOf : List ℕ → Layout → ℕ → Ground
+groundOf s layout at = below (length s) (at + sizeOf layout) ground.None (groundBy at (linkOf (inlineOf layout 0 (leAt s at (sizeOf layout)))))
+
+-- function i of the table at start
+unfoldable pub groundAt : List ℕ → Layout → ℕ → ℕ → Ground
+groundAt s layout start i = groundOf s layout (headerAt layout start i)
+
+-- as a call of its own: in a file of more than 2^30 bytes a function has no ground
+unfoldable pub groundIn : List ℕ → Layout → ℕ → ℕ → Ground
+groundIn s layout start i = below limit (length s) ground.None (groundAt s layout start i)
+
+-- ---- where its record is
+
+-- a large header having n bytes: 2 where its place is past the end, 3 where bytes run past it
+unfoldable pub whereOf : List ℕ → ℕ → Ground → Where
+whereOf s n ground.None = wh.Refused 3
+whereOf s n (ground.Inline at) = wh.Inline
+whereOf s n (ground.Large at place) = below (length s) place (wh.Refused 2) (below (length s) (place + n) (wh.Refused 3) (wh.Large place))
+
+unfoldable pub whereAt : List ℕ → Layout → ℕ → Where
+whereAt s layout at = whereOf s (largeOf layout) (groundOf s layout at)
+
+-- ---- the record
+
+-- what is found there; a large header's flags are the record's, and are not followed
+abbrev pub found : List ℕ → Layout → ℕ → ℕ → Where → Answer Record
+found s layout at i wh.Inline = gives (inlineOf layout i (leAt s at (sizeOf layout)))
+found s layout at i (wh.Large place) = gives (largeAt s layout place i)
+found s layout at i (wh.Refused k) = refusedAt k i
+
+unfoldable pub recordAt : List ℕ → Layout → ℕ → ℕ → Answer Record
+recordAt s layout at i = found s layout at i (whereAt s layout at)
+
+-- function i of the table at start: its record, or 2 or 3 at i
+unfoldable pub functionAt : List ℕ → Layout → ℕ → ℕ → Answer Record
+functionAt s layout start i = recordAt s layout (headerAt layout start i) i
+
+-- 1 and 2, for the file and the start, come before all else
+abbrev pub opened : {A : Type 0} → List ℕ → ℕ → Answer A → Answer A
+opened s start a = below limit (length s) (refusedAt 1 0) (below (length s) start (refusedAt 2 0) a)
+
+-- the answer for one function
+unfoldable pub readFunction : List ℕ → Layout → ℕ → ℕ → Answer Record
+readFunction s layout start i = opened s start (functionAt s layout start i)
+
+-- ---- a lent row afterwards
+
+-- the record's words, or as it was where there is none
+abbrev pub rowOf : Answer Record → List ℕ → List ℕ
+rowOf (gives r) before = rowWords r
+rowOf (refuses x) before = before
+
+-- lent words that are not one row stay
+unfoldable pub rowInto : Answer Record → List ℕ → List ℕ
+rowInto a before = cond (eqb (length before) width) (rowOf a before) before

@@ -1,0 +1,124 @@
+// One function of a header table: what it is read from, its record or a refusal, its row, and whether it meets a span of the file.
+ghost use mathlib.Core.Path.{_≡_};
+ghost use Prim.Native.Nat.{_^_, _≤_, _<_};
+ghost use Rattle.hbc_io.specs.Answer.{asked};
+ghost use Rattle.hbc_io.specs.Outcome.{limit};
+ghost use Rattle.hbc_function_header.specs.Header.{saysFunction, saysReading, headerAt, readFunction, groundIn, rowInto};
+ghost use Rattle.hbc_function_header.specs.Meets.{meetsIn};
+use hbc_function_record::Layout;
+use hbc_function_record::Record;
+use hbc_function_record::WIDTH;
+use hbc_function_record::header_size;
+use hbc_function_record::large_size;
+use hbc_io::LIMIT;
+use hbc_io::Refusal;
+use hbc_io::refuse;
+
+// The answer for one function.
+pub enum Function {
+    Read(Record),
+    Refused(Refusal),
+}
+
+// The same answer without the record: small, for a pass that only checks.
+pub enum Reading {
+    Read,
+    Refused(Refusal),
+}
+
+// What a function is read from: nothing where its header is not in the file, the header at a place, or that and the large one at another.
+pub enum Ground {
+    None,
+    Inline(usize),
+    Large(usize, usize),
+}
+
+// Where the record itself is: in its own header, in a large one at a place, or nowhere, with the refusal's number.
+pub enum Where {
+    Inline,
+    Large(usize),
+    Refused(u32),
+}
+
+mod find;
+mod meets;
+
+// Where the header of function `id` starts, in a table at `start`.
+fn header_at(layout: Layout, start: usize, id: u32) -> usize
+    requires { ⌜ start ≤ limit ⌝ }
+    ensures { λ r. ⌜ (r ≡ headerAt layout start id) × (r < 2 ^ 63) ⌝ }
+{
+    start + (id as usize) * header_size(layout)
+}
+
+// Function `id` of the table at `start`.
+pub fn read_function(file: &[u8], layout: Layout, start: usize, id: u32) -> Function
+    ensures { λ f. ⌜ saysFunction f ≡ readFunction (now (file .entry)) layout start id ⌝ }
+{
+    if LIMIT < file.len() {
+        return Function::Refused(refuse(1, 0));
+    }
+    if file.len() < start {
+        return Function::Refused(refuse(2, 0));
+    }
+    find::read(file, layout, header_at(layout, start, id), id)
+}
+
+// Whether it can be read: the same refusals, and no record.
+pub fn check_function(file: &[u8], layout: Layout, start: usize, id: u32) -> Reading
+    ensures { λ r. ⌜ saysReading r ≡ asked (readFunction (now (file .entry)) layout start id) ⌝ }
+{
+    if LIMIT < file.len() {
+        return Reading::Refused(refuse(1, 0));
+    }
+    if file.len() < start {
+        return Reading::Refused(refuse(2, 0));
+    }
+    find::check(file, layout, header_at(layout, start, id), id)
+}
+
+// Its row into a lent row. A refusal, or lent words that are not one row, change nothing.
+pub fn function_row(file: &[u8], layout: Layout, start: usize, id: u32, row: &mut [u32])
+    ensures { λ _. ⌜ now (row .exit) ≡ rowInto (readFunction (now (file .entry)) layout start id) (now (row .entry)) ⌝ }
+{
+    if row.len() != WIDTH {
+        return;
+    }
+    if LIMIT < file.len() {
+        return;
+    }
+    if file.len() < start {
+        return;
+    }
+    find::row(file, layout, header_at(layout, start, id), id, row);
+}
+
+// What it is read from.
+pub fn function_ground(file: &[u8], layout: Layout, start: usize, id: u32) -> Ground
+    ensures { λ g. ⌜ g ≡ groundIn (now (file .entry)) layout start id ⌝ }
+{
+    if LIMIT < file.len() {
+        return Ground::None;
+    }
+    if file.len() < start {
+        return Ground::None;
+    }
+    find::ground_of(file, layout, header_at(layout, start, id))
+}
+
+// Does it meet the bytes from low up to high?
+pub fn function_meets(
+    file: &[u8],
+    layout: Layout,
+    start: usize,
+    id: u32,
+    low: usize,
+    high: usize,
+) -> bool
+    ensures { λ r. ⌜ r ≡ meetsIn (now (file .entry)) layout start id low high ⌝ }
+{
+    let ground = function_ground(file, layout, start, id);
+    let own = header_size(layout);
+    let large = large_size(layout);
+    meets::ground_meets(ground, own, large, low, high)
+}

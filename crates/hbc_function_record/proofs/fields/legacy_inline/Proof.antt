@@ -1,0 +1,54 @@
+use Rattle.hbc_function_record.specs.Record.{legacyOf}
+use borrow.Author.Needs.{needs}
+use Rattle.hbc_function_record.proofs.fields.legacy_inline.Statement.{statement}
+use Rattle.hbc_function_record.proofs.fields.legacy_inline.Tie as tie
+
+cut-requires : tie.Need-cut-requires
+cut-requires c κs = search needs
+
+cut-requires-2 : tie.Need-cut-requires-2
+cut-requires-2 c κs = search needs
+
+cut-requires-3 : tie.Need-cut-requires-3
+cut-requires-3 c κs = search needs
+
+cut-requires-4 : tie.Need-cut-requires-4
+cut-requires-4 c κs = search needs
+
+cut-requires-5 : tie.Need-cut-requires-5
+cut-requires-5 c κs = search needs
+
+cut-requires-6 : tie.Need-cut-requires-6
+cut-requires-6 c κs = search needs
+
+cut-requires-7 : tie.Need-cut-requires-7
+cut-requires-7 c κs = search needs
+
+cut-requires-8 : tie.Need-cut-requires-8
+cut-requires-8 c κs = search needs
+
+cut-requires-9 : tie.Need-cut-requires-9
+cut-requires-9 c κs = search needs
+
+cut-requires-10 : tie.Need-cut-requires-10
+cut-requires-10 c κs = search needs
+
+returns : tie.Need-returns
+unfolding legacyOf
+returns c = cc
+
+pub legacy-inline-spec : {M : Type 1} → statement M
+legacy-inline-spec =
+    tie.close
+    (tie.spec
+    cut-requires
+    cut-requires-2
+    cut-requires-3
+    cut-requires-4
+    cut-requires-5
+    cut-requires-6
+    cut-requires-7
+    cut-requires-8
+    cut-requires-9
+    cut-requires-10
+    returns)

@@ -1,0 +1,14 @@
+use Rattle.hbc_function_record.specs.Record.{overflowed}
+use borrow.Author.Needs.{needs}
+use Rattle.hbc_function_record.proofs.fields.overflows.Statement.{statement}
+use Rattle.hbc_function_record.proofs.fields.overflows.Tie as tie
+
+bits-requires : tie.Need-bits-requires
+bits-requires c κs = search needs
+
+returns : tie.Need-returns
+unfolding overflowed
+returns c = rw (c .bits .ensures)
+
+pub overflows-spec : {M : Type 1} → statement M
+overflows-spec = tie.close (tie.spec bits-requires returns)

@@ -1,7 +1,0 @@
-pub mod Inside
-pub mod Answer
-pub mod Record
-pub mod Header
-pub mod Row
-pub mod Laws
-pub mod Copy

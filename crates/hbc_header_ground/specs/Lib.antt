@@ -1,2 +1,0 @@
-pub mod Meets
-pub mod Laws

@@ -1,0 +1,36 @@
+use mathlib.Core.Path.{sym, _∙_}
+use Rattle.hbc_io.proofs.Reading.{found}
+use Rattle.hbc_io_leb.specs.Answers.{saysUleb}
+use Rattle.hbc_io_strings.proofs.Texts.{prefix-got, prefix-refused}
+use borrow.Author.Needs.{needs}
+use Rattle.hbc_io_strings.proofs.read_length_prefixed_string.Statement.{statement}
+use Rattle.hbc_io_strings.proofs.read_length_prefixed_string.Tie as tie
+
+read-uleb128-requires : tie.Need-read-uleb128-requires
+read-uleb128-requires c κs = search needs
+
+enum-known-n : tie.Need-enum-known-n
+enum-known-n c = search needs
+
+read-bytes-requires : tie.Need-read-bytes-requires
+read-bytes-requires c κs = search needs
+
+enum-known-r : tie.Need-enum-known-r
+enum-known-r c = search needs
+
+returns : tie.Need-returns
+returns c = c .read-bytes .ensures ∙ sym (prefix-got _ _ (found saysUleb (c .before .before .before .before .read-uleb128 .ensures) (c .before .before .n .given .1)))
+
+returns-2 : tie.Need-returns-2
+returns-2 c = sym (prefix-refused _ _ (found saysUleb (c .before .before .before .read-uleb128 .ensures) (c .before .r .given .1)))
+
+pub read-length-prefixed-string-spec : {M : Type 1} → statement M
+read-length-prefixed-string-spec =
+    tie.close
+    (tie.spec
+    read-uleb128-requires
+    enum-known-n
+    read-bytes-requires
+    enum-known-r
+    returns
+    returns-2)

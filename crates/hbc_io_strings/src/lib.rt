@@ -1,0 +1,50 @@
+// Strings as spans of the input, after io.rs: ended by a zero byte, or with their length in front.
+ghost use mathlib.Core.Path.{_≡_};
+ghost use Rattle.hbc_io.specs.Answers.{saysSpan};
+ghost use Rattle.hbc_io_strings.specs.Text.{zeroEnded, prefixed};
+use hbc_io::Cursor;
+use hbc_io::LIMIT;
+use hbc_io::ReadSpan;
+use hbc_io::Span;
+use hbc_io::read_bytes;
+use hbc_io::refuse;
+use hbc_io_leb::ReadUleb;
+use hbc_io_leb::read_uleb128;
+
+pub fn read_cstring(s: &[u8], c: Cursor) -> ReadSpan
+    ensures { λ r. ⌜ saysSpan r ≡ zeroEnded (now (s .entry)) c ⌝ }
+{
+    let at = c.at;
+    if LIMIT < s.len() {
+        return ReadSpan::Refused(refuse(1, 0), c);
+    }
+    if s.len() < at {
+        return ReadSpan::Refused(refuse(2, 0), c);
+    }
+    let mut i = at;
+    while i < s.len() {
+        if s[i] == 0 {
+            return ReadSpan::Got(
+                Span {
+                    start: at,
+                    len: i - at,
+                },
+                Cursor { at: i + 1 },
+            );
+        }
+        i += 1;
+    }
+    ReadSpan::Refused(refuse(9, 0), Cursor { at: s.len() })
+}
+
+pub fn read_length_prefixed_string(s: &[u8], c: Cursor) -> ReadSpan
+    ensures { λ r. ⌜ saysSpan r ≡ prefixed (now (s .entry)) c ⌝ }
+{
+    match read_uleb128(s, c) {
+        ReadUleb::Got(n, next) => {
+            let len = n.value as usize;
+            read_bytes(s, next, len)
+        }
+        ReadUleb::Refused(r, left) => ReadSpan::Refused(r, left),
+    }
+}

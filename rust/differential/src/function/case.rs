@@ -1,0 +1,339 @@
+//! One call on function headers.
+
+use bisquepond::function::FunctionRow;
+use bisquepond::sys::*;
+use bisquepond::Row as _;
+use published::error::{Error, Result as Published};
+use published::file::parser::function::parse_function_headers;
+use published::format::{empty_header, FunctionHeader, FunctionHeaderLayout, FLAG_OVERFLOWED};
+use published::io::ByteReader;
+
+use crate::case::{self, bytes_word, printed, replayed, table_word};
+use crate::case::{Compare, Difference, Refusal, Words};
+use crate::lent::{copied, Answer};
+use crate::meter;
+use crate::search::last;
+
+/// The words of a row, and two of them.
+pub const ROW: usize = FunctionRow::WORDS;
+pub const INFO_OFFSET: usize = 6;
+pub const FLAGS: usize = 8;
+
+pub type Row = [u32; ROW];
+
+#[derive(Clone, Copy, PartialEq, Eq, Debug)]
+pub enum Op {
+    Read,
+    Refresh,
+    One,
+    Meets,
+}
+
+use Op::*;
+
+pub const OPS: [Op; 4] = [Read, Refresh, One, Meets];
+
+#[derive(Clone, Copy, PartialEq, Eq, Debug)]
+pub enum Layout {
+    Legacy,
+    Modern,
+}
+
+pub const LAYOUTS: [Layout; 2] = [Layout::Legacy, Layout::Modern];
+
+impl Layout {
+    pub fn ours(self) -> bisquepond::Layout {
+        match self {
+            Layout::Legacy => bisquepond::Layout::Legacy16,
+            Layout::Modern => bisquepond::Layout::Modern12,
+        }
+    }
+
+    pub fn published(self) -> FunctionHeaderLayout {
+        match self {
+            Layout::Legacy => FunctionHeaderLayout::Legacy16,
+            Layout::Modern => FunctionHeaderLayout::Modern12,
+        }
+    }
+
+    /// The bytes of a header in the table.
+    pub fn own(self) -> usize {
+        self.ours().header_size()
+    }
+
+    /// The bytes of a large header.
+    pub fn large(self) -> usize {
+        self.ours().large_header_size()
+    }
+
+    /// The packed place of a header, if it is flagged. The Rust hands none back; this is
+    /// written from docs/FORMAT.md, section 3.3.
+    pub fn place(self, header: &[u8]) -> Option<u64> {
+        let word = |at: usize| u64::from_le_bytes(header[at..at + 8].try_into().unwrap());
+        let offset = word(0) & ((1 << 25) - 1);
+        if header[self.own() - 1] & FLAG_OVERFLOWED == 0 {
+            return None;
+        }
+        Some(match self {
+            Layout::Legacy => (word(8) & ((1 << 25) - 1)) << 16 | offset,
+            Layout::Modern => (word(0) >> 46 & 0xFF) << 24 | offset & 0xFF_FFFF,
+        })
+    }
+
+    /// Where header `id` of the table stands, if it is wholly in the file.
+    pub fn header(self, file: &[u8], start: usize, id: u32) -> Option<(usize, &[u8])> {
+        let at = start.checked_add(id as usize * self.own())?;
+        let bytes = file.get(at..at.checked_add(self.own())?)?;
+        Some((at, bytes))
+    }
+
+    /// Whether the ground of function `id` shares a byte with the span.
+    fn meets(self, file: &[u8], start: usize, id: u32, low: usize, high: usize) -> bool {
+        let Some((at, header)) = self.header(file, start, id) else {
+            return false;
+        };
+        let shares = |from: u64, size: usize| {
+            let to = from + size as u64;
+            low < high && from < high as u64 && (low as u64) < to
+        };
+        let by_large = |place| shares(place, self.large());
+        shares(at as u64, self.own()) || self.place(header).is_some_and(by_large)
+    }
+}
+
+/// One call: on which file and table, with which numbers. `low` and `high` are 0 where there is no span.
+#[derive(Clone, Copy)]
+pub struct Case<'a> {
+    pub op: Op,
+    pub file: &'a [u8],
+    pub layout: u32,
+    pub start: usize,
+    /// How many functions; the number of the one where the call is about one.
+    pub count: u32,
+    pub low: usize,
+    pub high: usize,
+    /// The words lent, as they are before the call.
+    pub table: &'a [u32],
+}
+
+/// A row by the Rust's header of a function.
+pub fn row(header: &FunctionHeader) -> Row {
+    let words: &[u32] = match header {
+        FunctionHeader::Legacy(h) => &[
+            0,
+            h.function_id,
+            h.offset,
+            h.param_count,
+            h.bytecode_size_in_bytes,
+            h.function_name,
+            h.info_offset,
+            h.frame_size,
+            h.flags.into(),
+            h.environment_size,
+            h.highest_read_cache_index,
+            h.highest_write_cache_index,
+        ],
+        FunctionHeader::Modern(h) => &[
+            1,
+            h.function_id,
+            h.offset,
+            h.param_count,
+            h.bytecode_size_in_bytes,
+            h.function_name,
+            h.info_offset,
+            h.frame_size,
+            h.flags.into(),
+            h.loop_depth,
+            h.number_reg_count,
+            h.non_ptr_reg_count,
+            h.read_cache_size.into(),
+            h.write_cache_size.into(),
+            h.num_cache_new_object.into(),
+            h.private_name_cache_size.into(),
+        ],
+    };
+    let mut row = [0; ROW];
+    row[..words.len()].copy_from_slice(words);
+    row
+}
+
+/// The Rust's own loop over `count` functions from a start within the file.
+pub fn parsed(file: &[u8], layout: Layout, start: usize, count: u32) -> Published<Vec<Row>> {
+    let mut header = empty_header(layout.published());
+    header.function_count = count;
+    let mut reader = ByteReader::new(file);
+    reader.seek(start).expect("a start within the file");
+    let headers = parse_function_headers(&mut reader, &header)?;
+    Ok(headers.iter().map(row).collect())
+}
+
+/// Its rows, or the number of its refusal.
+fn published(file: &[u8], layout: Layout, start: usize, count: u32) -> Result<Vec<Row>, u32> {
+    parsed(file, layout, start, count).map_err(|error| match error {
+        Error::Parse(text) if text.starts_with("seek out of range") => 2,
+        Error::Parse(text) if text.starts_with("unexpected end of file") => 3,
+        error => panic!("an error that function.rs does not have: {error}"),
+    })
+}
+
+/// A fresh read of the whole table by the Rust. Its refusal names no function: the place is the greatest count that it
+/// still reads.
+pub fn fresh(file: &[u8], layout: Layout, start: usize, count: u32) -> Result<Vec<Row>, Refusal> {
+    published(file, layout, start, count).map_err(|number| {
+        let fit = (file.len() - start) / layout.own();
+        let reads = |count| published(file, layout, start, count).is_ok();
+        (number, last(0..count.min(fit as u32 + 1), 0, reads))
+    })
+}
+
+/// One function by the Rust: a table of one, at its header.
+pub fn one(file: &[u8], layout: Layout, start: usize, id: u32) -> Result<Row, Refusal> {
+    if layout.header(file, start, id).is_none() {
+        return Err((3, id));
+    }
+    let at = start + id as usize * layout.own();
+    let rows = published(file, layout, at, 1).map_err(|number| (number, id))?;
+    let mut row = rows[0];
+    row[1] = id;
+    Ok(row)
+}
+
+/// What is right: rows and their refusals by the Rust, all else by docs/FORMAT.md. The rows are written into `table`.
+pub fn right(case: &Case, table: &mut [u32]) -> Result<u32, Refusal> {
+    let Case { op, file, start, count, low, high, .. } = *case;
+    let layout = *LAYOUTS.get(case.layout as usize).ok_or((12, 0))?;
+    let meets = |&id: &u32| file.len() <= LIMIT && layout.meets(file, start, id, low, high);
+    if op == Meets {
+        return Ok(meets(&count).into());
+    }
+    if file.len() > LIMIT {
+        return Err((1, 0));
+    }
+    if start > file.len() {
+        return Err((2, 0));
+    }
+    if op == Refresh && (low > high || high > file.len()) {
+        return Err((10, 0));
+    }
+    let rows = if op == One { 1 } else { count as usize };
+    if table.len() / ROW < rows {
+        return Err((4, 0));
+    }
+    let written: Vec<(usize, Row)> = match op {
+        Read => {
+            let rows = fresh(file, layout, start, count)?;
+            rows.into_iter().enumerate().collect()
+        }
+        Refresh => {
+            let fit = (file.len() - start) / layout.own();
+            if fit < count as usize {
+                return Err((3, fit as u32));
+            }
+            let met = (0..count).filter(meets);
+            let read = met.map(|id| Ok((id as usize, one(file, layout, start, id)?)));
+            read.collect::<Result<_, Refusal>>()?
+        }
+        _ => vec![(0, one(file, layout, start, count)?)],
+    };
+    for (i, row) in &written {
+        table[i * ROW..][..ROW].copy_from_slice(row);
+    }
+    Ok(written.len() as u32)
+}
+
+impl Case<'_> {
+    /// Another call on the same, of so many functions or about one.
+    pub fn of(self, op: Op, count: u32) -> Self {
+        Case { op, count, ..self }
+    }
+
+    /// The call itself, with a table of so many words.
+    pub fn make(&self, table: *mut u32, words: usize) -> u64 {
+        let (s, len) = (self.file.as_ptr(), self.file.len());
+        let (layout, start, count) = (self.layout, self.start, self.count);
+        let (low, high) = (self.low, self.high);
+        meter::call(|| unsafe {
+            match self.op {
+                Read => hbc_read_functions(s, len, layout, start, count, table, words),
+                Refresh => {
+                    hbc_refresh_functions(s, len, layout, start, count, low, high, table, words)
+                }
+                One => hbc_read_function(s, len, layout, start, count, table, words),
+                Meets => hbc_function_meets(s, len, layout, start, count, low, high),
+            }
+        })
+    }
+
+    /// Compares a refresh with a fresh read of the same file by the Rust as well. `self.table` begins with the rows of
+    /// a file that was read whole, and that differs from this one within the span alone.
+    pub fn compare_fresh(&self) -> Result<Answer, Difference> {
+        let given = self.compare()?;
+        let layout = LAYOUTS[self.layout as usize];
+        let mut table = copied(self.table);
+        let answer = fresh(self.file, layout, self.start, self.count).map(|rows| {
+            table[..rows.len() * ROW].copy_from_slice(rows.as_flattened());
+            place(given.code)
+        });
+        let code = case::code(answer);
+        let same = self.same(Ok(given), &Answer { code, table });
+        same.map_err(|Difference(mut lines)| {
+            lines.push("expected  by a fresh read of the same file".to_string());
+            Difference(lines)
+        })
+    }
+}
+
+impl Compare for Case<'_> {
+    type Answer = Answer;
+    type Besides = ();
+
+    fn ours(&self) -> Result<Answer, String> {
+        let mut table = copied(self.table);
+        let code = self.make(table.as_mut_ptr(), self.table.len());
+        Ok(Answer { code, table })
+    }
+
+    fn right(&self, _: Option<&Answer>) -> (Answer, ()) {
+        let mut table = copied(self.table);
+        let code = case::code(right(self, &mut table[..self.table.len()]));
+        (Answer { code, table }, ())
+    }
+
+    fn call(&self) -> String {
+        let (op, layout, start, count) = (self.op, self.layout, self.start, self.count);
+        let (low, high, len, words) = (self.low, self.high, self.file.len(), self.table.len());
+        format!("{op:?}, layout {layout}, start {start}, count or number {count}, span {low} to {high}, {len} bytes of file, {words} words lent")
+    }
+
+    fn said(&self, answer: &Answer, right: Option<&Answer>) -> String {
+        let what = if self.op == Meets { "" } else { "rows" };
+        answer.words(what, right, ROW)
+    }
+
+    fn replay(&self) -> Option<String> {
+        let (op, layout, start, count) = (self.op, self.layout, self.start, self.count);
+        let (low, high) = (self.low, self.high);
+        printed(self.file, &[self.table], &[]).then(|| {
+            let (file, table) = (bytes_word(self.file), table_word(self.table));
+            format!("function {op:?} {layout} {start} {count} {low} {high} {file} {table}")
+        })
+    }
+}
+
+/// `OP LAYOUT START COUNT LOW HIGH FILE TABLE`, as a difference prints them; or `Zeros ..`.
+pub fn replay(words: &mut Words) -> Result<String, Difference> {
+    if words.called("Zeros") {
+        return super::differences::replay(words);
+    }
+    let case = Case {
+        op: words.one_of(&OPS)?,
+        layout: words.number()?,
+        start: words.number()?,
+        count: words.number()?,
+        low: words.number()?,
+        high: words.number()?,
+        file: &words.bytes()?,
+        table: &words.table()?,
+    };
+    replayed(&case, words)
+}

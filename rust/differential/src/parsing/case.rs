@@ -1,0 +1,16 @@
+//! The calls on handlers and trailing sections.
+
+pub mod handlers;
+pub mod sections;
+
+use crate::case::{Difference, Words};
+
+/// `Handlers ..` or `Sections ..`, as a difference prints them; or `Zeros ..`.
+pub fn replay(words: &mut Words) -> Result<String, Difference> {
+    match () {
+        _ if words.called("Handlers") => handlers::replay(words),
+        _ if words.called("Sections") => sections::replay(words),
+        _ if words.called("Zeros") => super::differences::replay(words),
+        _ => Err("--replay parsing needs Handlers or Sections".to_string().into()),
+    }
+}
