@@ -9,6 +9,7 @@ use Rattle.io_vectors.proofs.byte_at.Reads as byte-at-reads
 use Rattle.io_vectors.proofs.differs.Reads as differs-reads
 use Rattle.io_vectors.proofs.is_of.Reads as is-of-reads
 
+-- no more records were counted than bytes were passed, so that neither count overflows
 abbrev Inv-loop : tie.InvT-loop
 Inv-loop s op all₀ bad₀ at₀ all bad at = (all ≤ at) × (bad ≤ at)
 

@@ -8,6 +8,7 @@ use borrow.Author.Needs.{needs}
 use Rattle.vectors.proofs.holds.Statement.{statement}
 use Rattle.vectors.proofs.holds.Tie as tie
 
+-- the words before i were judged against the recorded ones, and j is what came of it
 abbrev Inv-loop : tie.InvT-loop
 Inv-loop s at table n j₀ i₀ j i = (i ≤ length table) × Held (wordAt s) (n .value) table j₀ i j
 

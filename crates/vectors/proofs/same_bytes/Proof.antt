@@ -6,6 +6,7 @@ use borrow.Author.Needs.{needs}
 use Rattle.vectors.proofs.same_bytes.Statement.{statement}
 use Rattle.vectors.proofs.same_bytes.Tie as tie
 
+-- same says whether the bytes before i are equal
 abbrev Inv-loop : tie.InvT-loop
 Inv-loop a b same₀ i₀ same i = (i ≤ length a) × Same a b i same
 

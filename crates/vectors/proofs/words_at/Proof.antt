@@ -6,6 +6,7 @@ use borrow.Author.Needs.{needs}
 use Rattle.vectors.proofs.words_at.Statement.{statement}
 use Rattle.vectors.proofs.words_at.Tie as tie
 
+-- the words before i were read into the table, and next is where the next one stands
 abbrev Inv-loop : tie.InvT-loop
 Inv-loop s at table₀ count next₀ i₀ table next i = (i ≤ count) × Worded s next₀ i table₀ table next
 
