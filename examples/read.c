@@ -1,5 +1,5 @@
 /* Reads a function table, changes a byte, brings the table up to date; then strings and literals. From the root:
- * gcc -std=c11 -Wall -Wextra -Werror -Iinclude examples/read.c target/staticlib/libhbc_c.a -o read && ./read
+ * gcc -std=c99 -Wall -Wextra -pedantic -Iinclude examples/read.c "$(rust/archive)" -o read && ./read
  */
 #include <inttypes.h>
 #include <stdio.h>
@@ -36,8 +36,9 @@ static void print_rows(const uint32_t *rows)
 {
     for (int i = 0; i < COUNT; i++) {
         const uint32_t *row = rows + i * HBC_FUNCTION_WORDS;
-        printf("  function %" PRIu32 " offset %" PRIu32 " size %" PRIu32 " name %" PRIu32 " frame %" PRIu32 "\n", row[1],
-               row[2], row[4], row[5], row[7]);
+        printf("  function %" PRIu32 " offset %" PRIu32 " size %" PRIu32 " name %" PRIu32 " frame %" PRIu32 "\n",
+               row[HBC_FUNCTION_ID],
+               row[HBC_FUNCTION_OFFSET], row[HBC_FUNCTION_SIZE], row[HBC_FUNCTION_NAME], row[HBC_FUNCTION_FRAME_SIZE]);
     }
 }
 
@@ -45,21 +46,22 @@ static int functions(void)
 {
     uint32_t rows[COUNT * HBC_FUNCTION_WORDS];
     const size_t words = COUNT * HBC_FUNCTION_WORDS, changed = LARGE + 8;
-    uint64_t code = hbc_read_functions(file, sizeof file, 0, 0, COUNT, rows, words);
+    uint64_t code = hbc_read_functions(file, sizeof file, HBC_LAYOUT_LEGACY16, 0, COUNT, rows, words);
     if (refused("read", code))
         return 1;
     printf("%" PRIu64 " functions\n", code);
     print_rows(rows);
 
     file[changed] += 1; /* the size of function 1 */
-    code = hbc_refresh_functions(file, sizeof file, 0, 0, COUNT, changed, changed + 1, rows, words);
+    code = hbc_refresh_functions(file, sizeof file, HBC_LAYOUT_LEGACY16, 0, COUNT, changed, changed + 1, rows, words);
     if (refused("refresh", code))
         return 1;
     printf("byte %zu changed, %" PRIu64 " row read again\n", changed, code);
     print_rows(rows);
 
     /* A file that ends within the large header: the place is the function. */
-    return !refused("read of 62 bytes", hbc_read_functions(file, 62, 0, 0, COUNT, rows, words));
+    code = hbc_read_functions(file, 62, HBC_LAYOUT_LEGACY16, 0, COUNT, rows, words);
+    return !(refused("read of 62 bytes", code) && HBC_NUMBER(code) == HBC_REFUSED_CUT);
 }
 
 static int strings(void)
@@ -68,15 +70,16 @@ static int strings(void)
     const uint32_t kinds[] = {1, 1u << 31 | 1};                    /* one string, one identifier */
     const uint32_t small[] = {0u << 1 | 2u << 24, 2u << 1 | 3u << 24}; /* offset 0 length 2, offset 2 length 3 */
     const uint32_t overflow[] = {0, 0};
-    uint32_t rows[2 * 4];
-    uint64_t code = hbc_decode_strings(2, kinds, 2, small, 2, overflow, 2, storage, sizeof storage, rows, 8);
+    uint32_t rows[2 * HBC_STRING_WORDS];
+    uint64_t code = hbc_decode_strings(2, kinds, 2, small, 2, overflow, 2, storage, sizeof storage, rows,
+                                       2 * HBC_STRING_WORDS);
     if (refused("strings", code))
         return 1;
     for (size_t i = 0; i < code; i++) {
         size_t start, len;
-        hbc_string_bytes(storage, sizeof storage, rows, 8, i, &start, &len);
+        hbc_string_bytes(storage, sizeof storage, rows, 2 * HBC_STRING_WORDS, i, &start, &len);
         printf("string %zu: %.*s%s\n", i, (int)len, (const char *)storage + start,
-               rows[i * 4 + 3] & 2 ? ", an identifier" : "");
+               rows[i * HBC_STRING_WORDS + HBC_STRING_MARKS] & HBC_MARK_IDENTIFIER ? ", an identifier" : "");
     }
     return 0;
 }
@@ -91,10 +94,10 @@ static int literals(void)
         return 1;
     printf("%" PRIu64 " bytes of literals:", code);
     for (int i = 0; i < 3; i++)
-        if (kinds[i] == 5)
+        if (kinds[i] == HBC_LITERAL_INTEGER)
             printf(" %" PRId32, (int32_t)(uint32_t)payloads[i]);
         else
-            printf(" %s", kinds[i] == 1 ? "true" : "another");
+            printf(" %s", kinds[i] == HBC_LITERAL_TRUE ? "true" : "another");
     printf("\n");
     return 0;
 }

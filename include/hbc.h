@@ -1,4 +1,5 @@
-/* The C calls of Bisquepond, a proved reader of Hermes bytecode tables. Link with libhbc_c.a (x86-64).
+/* The C calls of Bisquepond, a proved reader of Hermes bytecode tables. C99 or C++. Link with libhbc_c.a, the archive
+ * for your machine: rust/archive makes it, rust/ship a folder with it and this file.
  *
  * Common to all calls
  *
@@ -7,29 +8,18 @@
  *   `table_len`; the count is one of words, not of rows or bytes. Where it is const it is only read.
  * - A number that is lent (`size_t *at`, `uint32_t *value`, ..), and a table that is not const, must not be NULL, and
  *   must not overlap the bytes or anything else that is lent.
+ * - Tables and numbers are aligned as their type is: 4 bytes for uint32_t, 8 for uint64_t, size_t and double. Bytes may
+ *   lie anywhere.
  * - `at` is the cursor: the position in the bytes, from 0. It is read, and holds the cursor afterwards. It may hold
  *   any number.
  * - The answer is one number: where the call is accepted 0, or a number below 2^32 if it says so below; else the
  *   refusal's number times 2^32, plus its place. HBC_NUMBER and HBC_PLACE take it apart. The place is 0 unless it is
  *   named below.
- * - A value is written only where the call is accepted; a refused call leaves the lent values and every word of the
- *   lent tables as they were, and the cursor too, unless it says otherwise below.
+ * - A value is written only where the call is accepted; a refused call leaves the lent values (`*start` and `*size`
+ *   among them) and every word of the lent tables as they were, and the cursor too, unless it says otherwise below.
  * - Every call ends, on every input, and never reads outside the bytes lent.
- *
- * Refusal numbers of these calls, in the order in which they are looked for
- *
- *  12  a layout that there is not
- *   1  more than 2^30 bytes are lent
- *   6  alignment 0
- *   2  the cursor or a start stands past the end; or a seek or align goes past the end
- *   7  a series begins at or past the end, and is not empty
- *  10  a span is reversed, or goes past the end
- *  11  fewer rows are lent to be read than the count says
- *   4  a lent table has too few rows
- *   3  a read needs bytes past the end
- *   5  the tenth byte of a LEB128 number has bit 7 set
- *   8  no overflow entry is left
- *   9  a zero-ended string has no zero
+ * - Nothing is allocated, and no call has data of its own: calls on different tables and numbers may run in parallel,
+ *   on the same bytes too. What the archive needs besides is memcpy and memset.
  */
 #ifndef HBC_H
 #define HBC_H
@@ -38,9 +28,35 @@
 #include <stddef.h>
 #include <stdint.h>
 
+/* What this header and its archive are. */
+#define HBC_VERSION "0.1.0"
+#define HBC_VERSION_MAJOR 0
+#define HBC_VERSION_MINOR 1
+#define HBC_VERSION_PATCH 0
+
 /* The refusal's number in an answer, 0 if it was accepted; and its place. */
 #define HBC_NUMBER(code) ((uint32_t)((uint64_t)(code) >> 32))
 #define HBC_PLACE(code) ((uint32_t)(uint64_t)(code))
+
+/* Refusals, in the order in which they are looked for; below, a call names them by number. */
+#define HBC_REFUSED_NO_SUCH_LAYOUT 12   /* a layout that there is not */
+#define HBC_REFUSED_TOO_LONG 1          /* more than HBC_LIMIT bytes are lent */
+#define HBC_REFUSED_ZERO_ALIGNMENT 6    /* alignment 0 */
+#define HBC_REFUSED_PAST_END 2          /* the cursor or a start stands past the end; or a seek or align goes past it */
+#define HBC_REFUSED_SERIES_PAST_END 7   /* a series begins at or past the end, and is not empty */
+#define HBC_REFUSED_BAD_SPAN 10         /* a span is reversed, or goes past the end */
+#define HBC_REFUSED_TOO_FEW_TO_READ 11  /* fewer rows are lent to be read than the count says */
+#define HBC_REFUSED_TOO_FEW_ROWS 4      /* a lent table has too few rows */
+#define HBC_REFUSED_CUT 3               /* a read needs bytes past the end */
+#define HBC_REFUSED_LEB128_TOO_LONG 5   /* the tenth byte of a LEB128 number has bit 7 set */
+#define HBC_REFUSED_NO_OVERFLOW_PAIR 8  /* no overflow entry is left */
+#define HBC_REFUSED_NO_ZERO 9           /* a zero-ended string has no zero */
+
+/* The most bytes that are read. */
+#define HBC_LIMIT 1073741824
+
+/* The word that stands for no parent and for no such string. */
+#define HBC_NONE 4294967295u
 
 #ifdef __cplusplus
 extern "C" {
@@ -108,16 +124,43 @@ uint64_t hbc_read_length_prefixed_string(const uint8_t *s, size_t s_len, size_t 
 
 /* ---- Function tables ----
  *
- * A layout is a number: 0 legacy (headers of 16 bytes), 1 modern (12). A row is HBC_FUNCTION_WORDS words:
- *
- *   layout, id, offset, param_count, size, name, info_offset, frame_size, flags; then
- *   legacy  environment_size, read index, write index, 0, 0, 0, 0
- *   modern  loop_depth, number_reg, non_ptr_reg, read cache, write cache, new_object, private_name
+ * A layout is a number: 0 legacy (headers of 16 bytes), 1 modern (12). A row is HBC_FUNCTION_WORDS words, named below;
+ * the last four of a legacy row are 0. Word 0 is the layout, word 1 the function's number.
  *
  * `start` is the byte of the file at which the table of headers begins. A header with bit 5 of its flags set is read
  * from its large header, at the place packed into it.
  * Refused 12 before all else if `layout` is neither 0 nor 1. */
+#define HBC_LAYOUT_LEGACY16 0
+#define HBC_LAYOUT_MODERN12 1
+
 #define HBC_FUNCTION_WORDS 16
+#define HBC_FUNCTION_LAYOUT 0
+#define HBC_FUNCTION_ID 1
+#define HBC_FUNCTION_OFFSET 2
+#define HBC_FUNCTION_PARAM_COUNT 3
+#define HBC_FUNCTION_SIZE 4
+#define HBC_FUNCTION_NAME 5
+#define HBC_FUNCTION_INFO_OFFSET 6
+#define HBC_FUNCTION_FRAME_SIZE 7
+#define HBC_FUNCTION_FLAGS 8
+/* of a legacy row */
+#define HBC_FUNCTION_ENVIRONMENT_SIZE 9
+#define HBC_FUNCTION_READ_INDEX 10
+#define HBC_FUNCTION_WRITE_INDEX 11
+/* of a modern row */
+#define HBC_FUNCTION_LOOP_DEPTH 9
+#define HBC_FUNCTION_NUMBER_REG 10
+#define HBC_FUNCTION_NON_PTR_REG 11
+#define HBC_FUNCTION_READ_CACHE 12
+#define HBC_FUNCTION_WRITE_CACHE 13
+#define HBC_FUNCTION_NEW_OBJECT 14
+#define HBC_FUNCTION_PRIVATE_NAME 15
+
+/* Bits of the flags word; the overflow bit is the one of the header that the row was read from. */
+#define HBC_FLAG_STRICT 0x01
+#define HBC_FLAG_HAS_EXCEPTION_HANDLER 0x08
+#define HBC_FLAG_PROHIBIT_CONSTRUCT 0x10
+#define HBC_FLAG_OVERFLOWED 0x20
 
 /* Reads functions 0 to count - 1 into rows 0 to count - 1 of `table`. Accepted, the answer is `count`; words past
  * those rows stay.
@@ -130,7 +173,10 @@ uint64_t hbc_read_functions(const uint8_t *file, size_t file_len, uint32_t layou
 /* Brings a table up to date after the bytes from `low` up to `high` of the file changed, and nothing else: reads again
  * those of the `count` functions that meet this span, from the file as it is now, into their rows. A function meets it
  * if its header, or its large header if it is flagged, shares a byte with it; an empty span meets nothing.
- * Accepted, the answer is how many were read again; every other word of the table stays.
+ * Accepted, the answer is how many were read again, and hbc_function_meets says which; every other word stays.
+ * Refused, no row is written, and the edit is not taken in: a later call with another span would leave its rows out of
+ * date. Undo the edit, or let the span of the next call hold this one too. If the length of the file changed, read the
+ * table anew.
  * Refused 12; 1; 2 if `start` is past the end; 10 if `low` is above `high`, or `high` past the end; 4 as above; 3 with
  * the first function whose header is not wholly in the file as place, whether it meets the span or not; then 2 or 3 as
  * above for the first function that meets the span and cannot be read. */
@@ -142,13 +188,24 @@ uint64_t hbc_refresh_functions(const uint8_t *file, size_t file_len, uint32_t la
 uint64_t hbc_read_function(const uint8_t *file, size_t file_len, uint32_t layout, size_t start, uint32_t id,
                            uint32_t *table, size_t table_len);
 
-/* Whether function `id` meets the bytes from `low` up to `high`, which need not be in the file: 1 if so, 0 if not, and
- * 0 where its header is not wholly in the file, or the file is longer than 2^30 bytes.
- * Refused 12 only. */
+/* Where function `id` is read from. Accepted, the answer is 0, `*header` is the place of its header and `*large` that of
+ * its large header, which may be past the end, or HBC_NO_PLACE if it has none; refused, both stay.
+ * Refused 12; 1; 2 at place 0 if `start` is past the end; 3 with `id` as place if its header is not wholly in the
+ * file. */
+#define HBC_NO_PLACE SIZE_MAX
+uint64_t hbc_function_ground(const uint8_t *file, size_t file_len, uint32_t layout, size_t start, uint32_t id,
+                             size_t *header, size_t *large);
+
+/* Whether function `id` meets the bytes from `low` up to `high`: 1 if so, 0 if not.
+ * Refused 12; 1; 2 at place 0 if `start` is past the end; 10 if `low` is above `high`, or `high` past the end; 3 with
+ * `id` as place if its header is not wholly in the file. */
 uint64_t hbc_function_meets(const uint8_t *file, size_t file_len, uint32_t layout, size_t start, uint32_t id,
                             size_t low, size_t high);
 
 /* ---- String tables ---- */
+
+/* Words of a pair. */
+#define HBC_PAIR_WORDS 2
 
 /* Reads `count` words from the cursor on, the least byte first, into `table`. Kind runs are read so too.
  * Accepted, the cursor moves behind them; words of the table past the first `count` stay.
@@ -162,11 +219,18 @@ uint64_t hbc_read_u32_table(const uint8_t *s, size_t s_len, size_t *at, uint32_t
 uint64_t hbc_read_pair_table(const uint8_t *s, size_t s_len, size_t *at, uint32_t count, uint32_t *table,
                              size_t table_len);
 
-/* One row of four words for each of the first n strings, n being the lesser of `count` and `small_len`:
- *
- *   start in the storage, byte length, 0 valid or 1 invalid (start and length are then 0), marks (1 UTF-16,
- *   2 identifier; their sum if both)
- *
+/* A row of hbc_decode_strings: start in the storage, byte length, 0 valid or 1 invalid (start and length are then 0),
+ * and the marks, their sum if both. */
+#define HBC_STRING_WORDS 4
+#define HBC_STRING_START 0
+#define HBC_STRING_LENGTH 1
+#define HBC_STRING_INVALID 2
+#define HBC_STRING_MARKS 3
+#define HBC_MARK_UTF16 1
+#define HBC_MARK_IDENTIFIER 2
+
+/* One row for each of the first n strings, n being the lesser of `count` and `small_len`. Overflow pairs are taken in
+ * order: the offset field of an entry that needs one is not looked at.
  * `kinds`: the words of the kind runs. `small`: the small entries, a word each. `overflow`: pairs, two words each; a
  * last word without its partner is none.
  * Accepted, the answer is n, a number below 2^32; words past the rows stay.
@@ -184,7 +248,13 @@ void hbc_string_bytes(const uint8_t *storage, size_t storage_len, const uint32_t
 
 /* ---- Literals ----
  *
- * A value has a kind: 0 null, 1 true, 2 false, 3 float, 4 string, 5 integer. */
+ * A value has a kind. */
+#define HBC_LITERAL_NULL 0
+#define HBC_LITERAL_TRUE 1
+#define HBC_LITERAL_FALSE 2
+#define HBC_LITERAL_NUMBER 3  /* a double */
+#define HBC_LITERAL_STRING 4  /* the number of a string */
+#define HBC_LITERAL_INTEGER 5 /* 32 bits, signed */
 
 /* One value at the cursor, which moves behind it. `tag` is its tag byte, of which bits 4 to 6 count. `*number` is
  * written for kind 3 alone (a NaN comes out as a NaN of any bits), `*word` for kind 4 (the string's number) and kind 5
@@ -202,19 +272,25 @@ uint64_t hbc_read_literal(const uint8_t *s, size_t s_len, size_t *at, uint8_t ta
 uint64_t hbc_read_series(const uint8_t *s, size_t s_len, uint32_t offset, uint32_t count, uint32_t *kinds,
                          size_t kinds_len, uint64_t *payloads, size_t payloads_len);
 
-/* The same of an object's keys (`yes` not 0) or of its values (`yes` 0); the other buffer is not looked at, and may be
- * of any length. The bytes used are those from `offset` on of the named one; for `count` 0 its empty beginning. */
-uint64_t hbc_read_object(const uint8_t *keys, size_t keys_len, const uint8_t *values, size_t values_len, uint32_t yes,
-                         uint32_t offset, uint32_t count, uint32_t *kinds, size_t kinds_len, uint64_t *payloads,
-                         size_t payloads_len);
+/* The same of an object's keys (`of_keys` not 0) or of its values (`of_keys` 0); the other buffer is not looked at, and
+ * may be of any length. The bytes used are those from `offset` on of the named one; for `count` 0 its empty
+ * beginning. */
+uint64_t hbc_read_object(const uint8_t *keys, size_t keys_len, const uint8_t *values, size_t values_len,
+                         uint32_t of_keys, uint32_t offset, uint32_t count, uint32_t *kinds, size_t kinds_len,
+                         uint64_t *payloads, size_t payloads_len);
 
 /* ---- Handlers and trailing sections ---- */
 
+/* A row of hbc_read_handlers. */
+#define HBC_HANDLER_WORDS 4
+#define HBC_HANDLER_FUNCTION 0
+#define HBC_HANDLER_START 1
+#define HBC_HANDLER_END 2
+#define HBC_HANDLER_TARGET 3
+
 /* The exception handlers of functions 0 to count - 1. `functions` holds rows as hbc_read_functions writes them, row i
- * for function i; only info_offset and flags are read, and may be any numbers. `rows` gets four words a handler,
- * functions rising:
- *
- *   function, start, end, target
+ * for function i; only info_offset and flags are read, and may be any numbers. `rows` gets a row for each handler,
+ * functions rising.
  *
  * A function has none if bit 3 of its flags is clear, if info_offset is 0 or at or past the end, if its place rounded
  * up to 4 leaves no 4 bytes, if the count there is 0 or above 1000, or if one of its handlers is cut.
@@ -231,34 +307,54 @@ uint64_t hbc_read_handlers(const uint8_t *file, size_t file_len, const uint32_t 
 #define HBC_BYTECODE 4
 #define HBC_SECTIONS 5
 
+/* A row: start, size with padding, entries (0 for storage and bytecode), and 1 if absent, else 0. */
+#define HBC_SECTION_WORDS 4
+#define HBC_SECTION_START 0
+#define HBC_SECTION_SIZE 1
+#define HBC_SECTION_ENTRIES 2
+#define HBC_SECTION_ABSENT 3
+
 /* Finds the sections from byte `start` on: regexp table (8 bytes an entry), regexp storage, CJS pairs (8), function
- * sources (8) if `given`, each padded to 4 in the file; then bytecode to the end. `rows` gets HBC_SECTIONS rows of four
- * words:
+ * sources (8) if `with_sources`, each padded to 4 in the file; then bytecode to the end. `rows` gets HBC_SECTIONS rows.
  *
- *   start, size with padding, entries (0 for storage and bytecode), and 1 if absent, else 0
- *
- * Function sources that are not given are absent, with 0 in the other words; `sources` is then not looked at. The
+ * Function sources that are not asked for are absent, with 0 in the other words; `sources` is then not looked at. The
  * entries are read by hbc_read_pair_table, at a section's start and with its entries as the count.
  * Accepted, the answer is HBC_SECTIONS; words past the rows stay.
  * Refused 1; 2 if `start` is past the end; 4 if fewer than HBC_SECTIONS rows are lent; then, section by section, 3 if
  * its bytes and 2 if its padding goes past the end. */
 uint64_t hbc_trailing_sections(const uint8_t *file, size_t file_len, size_t start, uint32_t regexps, uint32_t storage,
-                               uint32_t cjs, bool given, uint32_t sources, uint32_t *rows, size_t rows_len);
+                               uint32_t cjs, bool with_sources, uint32_t sources, uint32_t *rows, size_t rows_len);
 
 /* ---- The debug section ---- */
 
-/* The debug section at byte `offset` of the file, as rows in four tables:
- *
- *   strings  2 words: start in the file, after the length prefix, and byte length
- *   scopes   5 words: offset in the scope part, parent (4294967295 if none), flags, first name, name count
- *   names    1 word: a string's number, 4294967295 if there is no such string; scopes name parts of this table
- *   callees  2 words: address, string's number; addresses rise
+/* A row of `strings`: start in the file, after the length prefix, and byte length. */
+#define HBC_TEXT_WORDS 2
+#define HBC_TEXT_START 0
+#define HBC_TEXT_LENGTH 1
+/* Of `scopes`: offset in the scope part, parent (HBC_NONE if none), flags, and which part of `names` is its own. */
+#define HBC_SCOPE_WORDS 5
+#define HBC_SCOPE_OFFSET 0
+#define HBC_SCOPE_PARENT 1
+#define HBC_SCOPE_FLAGS 2
+#define HBC_SCOPE_FIRST_NAME 3
+#define HBC_SCOPE_NAME_COUNT 4
+/* Of `names`: a string's number, HBC_NONE if there is no such string. */
+#define HBC_NAME_WORDS 1
+#define HBC_NAME_STRING 0
+/* Of `callees`, whose addresses rise: address, string's number. */
+#define HBC_CALLEE_WORDS 2
+#define HBC_CALLEE_ADDRESS 0
+#define HBC_CALLEE_STRING 1
+
+/* The debug section at byte `offset` of the file, as rows in four tables.
  *
  * At `offset` 0, 2^32 - 1, or at or past the end there is no debug information: accepted, with no rows.
  * Accepted, the answer is 0, and the four counts are those of the rows; words past them stay. Refused, the counts stay
  * too.
  * Refused 1; 3 if the header of 28 bytes is cut; 4 if one of the tables has too few rows, looked at last.
- * Callees whose addresses do not rise take 768 KiB of stack, however many there are. */
+ * Takes at most 8 KiB of stack where the callees' addresses rise or there are none, else at most 272 KiB, however many
+ * there are. Rising callees take three passes. n others take three for each 65,536 of them, and a few more, each over
+ * all of them, so that the time grows with n * n / 65,536: sorting in that space takes no less. */
 uint64_t hbc_read_debug(const uint8_t *file, size_t file_len, uint32_t offset, uint32_t *strings, size_t strings_len,
                         uint32_t *scopes, size_t scopes_len, uint32_t *names, size_t names_len, uint32_t *callees,
                         size_t callees_len, size_t *string_count, size_t *scope_count, size_t *name_count,

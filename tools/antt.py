@@ -44,8 +44,8 @@ def is_claims(crate):
 
 
 def is_layer(tree, crate):
-    """a library that is called, not one of theorems; `vectors` is what the programs share that replay recorded answers, and no part of the reader"""
-    return not is_program(tree, crate) and not is_claims(crate) and crate != 'vectors'
+    """a library that is called, not one of theorems"""
+    return not is_program(tree, crate) and not is_claims(crate)
 
 
 # ---- .antt

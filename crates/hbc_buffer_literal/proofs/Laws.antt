@@ -52,9 +52,9 @@ width-small {t} h =
     rw (ne-eqb _ _ h)
     (at-most 4 (eqb t 4) 4 _ (omega arith) (at-most 4 (eqb t 5) 2 _ (omega arith) (at-most 4 (eqb t 6) 1 _ (omega arith) (at-most 4 (eqb t 7) 4 0 (omega arith) (omega arith)))))
 
-pub string-is : {t v : ℕ} → (t ≡ 0 → ⊥) → (t ≡ 1 → ⊥) → (t ≡ 2 → ⊥) → (t ≡ 3 → ⊥) → (t ≡ 7 → ⊥) → String v ≡ literalOf t v
+pub null-is : {t : ℕ} (v : ℕ) → (t ≡ 1 → ⊥) → (t ≡ 2 → ⊥) → (t ≡ 3 → ⊥) → (t ≡ 4 → ⊥) → (t ≡ 5 → ⊥) → (t ≡ 6 → ⊥) → (t ≡ 7 → ⊥) → Null ≡ literalOf t v
 unfolding literalOf
-string-is a b c d e = rw (ne-eqb _ _ a, ne-eqb _ _ b, ne-eqb _ _ c, ne-eqb _ _ d, ne-eqb _ _ e)
+null-is v a b c d e f g = rw (ne-eqb _ _ a, ne-eqb _ _ b, ne-eqb _ _ c, ne-eqb _ _ d, ne-eqb _ _ e, ne-eqb _ _ f, ne-eqb _ _ g)
 
 -- a float and an integer are what the reads below say
 pub number-is : (s : List ℕ) (c : Cursor) → valued Number (valued (ofBits binary64) (plainAt 8 s c)) ≡ literalAt 3 s c
@@ -96,8 +96,10 @@ kind-cond false x y u v e f = f
 pub kind-any : (t v w : ℕ) → kindOf (literalOf t v) ≡ kindOf (literalOf t w)
 unfolding literalOf
 kind-any t v w =
-    kind-cond (eqb t 0) Null _ Null _ refl
-    (kind-cond (eqb t 1) (Truth true) _ (Truth true) _ refl
+    kind-cond (eqb t 1) (Truth true) _ (Truth true) _ refl
     (kind-cond (eqb t 2) (Truth false) _ (Truth false) _ refl
     (kind-cond (eqb t 3) (Number (ofBits binary64 v)) _ (Number (ofBits binary64 w)) _ refl
-    (kind-cond (eqb t 7) (Integer (twos 32 v)) (String v) (Integer (twos 32 w)) (String w) refl refl))))
+    (kind-cond (eqb t 4) (String v) _ (String w) _ refl
+    (kind-cond (eqb t 5) (String v) _ (String w) _ refl
+    (kind-cond (eqb t 6) (String v) _ (String w) _ refl
+    (kind-cond (eqb t 7) (Integer (twos 32 v)) Null (Integer (twos 32 w)) Null refl refl))))))

@@ -37,7 +37,7 @@ pub enum ReadLiteral {
     Refused(Refusal, Cursor),
 }
 
-// How many bytes a value has. A tag is here the number of its bits 4 to 6.
+// How many bytes a value has. A tag is here the number of its bits 4 to 6; from 8 up, where none is, it counts as null's.
 pub fn width(tag: u64) -> usize
     ensures { λ r. ⌜ r ≡ widthOf tag ⌝ }
 {
@@ -56,12 +56,14 @@ pub fn kind(tag: u64) -> u32
     ensures { λ r. ⌜ r ≡ kindOf (literalOf tag 0) ⌝ }
 {
     match tag {
-        0 => 0,
         1 => 1,
         2 => 2,
         3 => 3,
+        4 => 4,
+        5 => 4,
+        6 => 4,
         7 => 5,
-        _ => 4,
+        _ => 0,
     }
 }
 
@@ -139,10 +141,12 @@ fn worded(tag: u64, v: u64) -> Literal
     ensures { λ r. ⌜ r ≡ literalOf tag v ⌝ }
 {
     match tag {
-        0 => Literal::Null,
         1 => Literal::Bool(true),
         2 => Literal::Bool(false),
-        _ => Literal::String(v as u32),
+        4 => Literal::String(v as u32),
+        5 => Literal::String(v as u32),
+        6 => Literal::String(v as u32),
+        _ => Literal::Null,
     }
 }
 

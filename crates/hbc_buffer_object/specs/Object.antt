@@ -4,10 +4,11 @@ use mathlib.Core.List.{List}
 use mathlib.Core.Bool.{Bool, cond}
 use lib.ListN.{length}
 use lib.Dec.{eqb}
+use denote.Ref.{RefT}
 use Rattle.hbc_io.specs.Outcome.{refusalAt}
 use Rattle.hbc_io.specs.Answer.{Answer, gives, refuses}
 use Rattle.hbc_io.specs.Lends.{Tells}
-use Rattle.hbc_io.specs.Plain.{spanOf, partOf}
+use Rattle.hbc_io.specs.Plain.{spanOf, partOf, IsPart}
 use Rattle.hbc_buffer.specs.Series.{seriesAnswer, seriesTables}
 use Rattle.hbc_buffer_object.specs.declared.Object.{Object}
 
@@ -19,9 +20,13 @@ named b keys values = cond b keys values
 abbrev pub bytesOf : List ℕ → ℕ → ℕ → List ℕ
 bytesOf s start n = partOf s (spanOf start n)
 
--- the bytes that an answer speaks of, as a part of the buffer that was named
+-- the bytes that an answer speaks of, in the buffer that was named
 abbrev pub objectPart : List ℕ → List ℕ → Object → List ℕ
 objectPart keys values o = bytesOf (named (o .«yes») keys values) (o .start) (o .len)
+
+-- the promise: that part of the named buffer itself, not of the other
+abbrev pub ObjectPart : RefT (List ℕ) → RefT (List ℕ) → Object → RefT (List ℕ) → Type 0
+ObjectPart keys values o = IsPart (named (o .«yes») keys values) (spanOf (o .start) (o .len))
 
 -- for count 0, its empty beginning
 abbrev pub startOf : ℕ → ℕ → ℕ

@@ -1,7 +1,8 @@
 // An object's series, after buffer.rs: key and value buffers that the caller lends, each with its own lifetime, one of them named by a yes or no.
 ghost use mathlib.Core.Path.{_≡_};
 ghost use Rattle.hbc_buffer.specs.Series.{saysSeries};
-ghost use Rattle.hbc_buffer_object.specs.Object.{named, bytesOf, objectPart, startOf, objectOf, ReadObject};
+ghost use Rattle.hbc_io.specs.Plain.{spanOf, IsPart};
+ghost use Rattle.hbc_buffer_object.specs.Object.{named, ObjectPart, startOf, objectOf, ReadObject};
 use hbc_buffer::Series;
 use hbc_buffer::read_series;
 use hbc_io::Refusal;
@@ -18,7 +19,7 @@ pub struct Object {
 
 // The lent buffer that is named: yes means keys.
 fn choose<'k: 'r, 'v: 'r, 'r>(keys: &'k [u8], values: &'v [u8], yes: bool) -> &'r [u8]
-    ensures { λ r. ⌜ now r ≡ named yes (now (keys .entry)) (now (values .entry)) ⌝ }
+    ensures { λ r. ⌜ r ≡ named yes (keys .entry) (values .entry) ⌝ }
 {
     if yes {
         return keys;
@@ -27,14 +28,14 @@ fn choose<'k: 'r, 'v: 'r, 'r>(keys: &'k [u8], values: &'v [u8], yes: bool) -> &'
 }
 
 fn part(s: &[u8], start: usize, len: usize) -> &[u8]
-    ensures { λ r. ⌜ now r ≡ bytesOf (now (s .entry)) start len ⌝ }
+    ensures { λ r. ⌜ IsPart (s .entry) (spanOf start len) r ⌝ }
 {
     hbc_io::part(s, Span { start, len })
 }
 
 // The bytes of a series that was read, as a part of the buffer that it was read from, at a lifetime that both buffers outlive.
 pub fn object_part<'k: 'r, 'v: 'r, 'r>(keys: &'k [u8], values: &'v [u8], o: Object) -> &'r [u8]
-    ensures { λ r. ⌜ now r ≡ objectPart (now (keys .entry)) (now (values .entry)) o ⌝ }
+    ensures { λ r. ⌜ ObjectPart (keys .entry) (values .entry) o r ⌝ }
 {
     part(choose(keys, values, o.yes), o.start, o.len)
 }

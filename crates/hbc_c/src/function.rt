@@ -1,5 +1,5 @@
 // The calls on function headers.
-ghost use Rattle.hbc_c_function.specs.Function.{ToldFunctions, ToldRefresh, ToldFunction, ToldMeets};
+ghost use Rattle.hbc_c_function.specs.Function.{ToldFunctions, ToldRefresh, ToldFunction, ToldGround, ToldMeets, places};
 
 #[no_mangle]
 pub extern "C" fn hbc_read_functions(
@@ -41,6 +41,22 @@ pub extern "C" fn hbc_read_function(
     ensures { λ r. ⌜ ToldFunction (now (file .entry)) layout start id (now (table .entry)) r (now (table .exit)) ⌝ }
 {
     hbc_c_function::read_function(file, layout, start, id, table)
+}
+
+// Where function `id` is read from: the place of its header, and that of its large one or 2^64 - 1.
+#[no_mangle]
+pub extern "C" fn hbc_function_ground(
+    file: &[u8],
+    layout: u32,
+    start: usize,
+    id: u32,
+    header: &mut usize,
+    large: &mut usize,
+) -> u64
+    ensures { λ r. ⌜ ToldGround (now (file .entry)) layout start id (places (now (header .entry)) (now (large .entry)))
+        r (places (now (header .exit)) (now (large .exit))) ⌝ }
+{
+    hbc_c_function::function_ground(file, layout, start, id, header, large)
 }
 
 // 1 if function `id` meets the bytes from low up to high, 0 if not.

@@ -6,11 +6,11 @@ use mathlib.Core.Bool.{Bool, not}
 use lib.Dec.{eqb}
 use lib.Ieee.{Float}
 use Rattle.hbc_bits.specs.Bits.{field}
-use Rattle.hbc_io.specs.Outcome.{Outcome, cursorAt, valued}
+use Rattle.hbc_io.specs.Outcome.{Outcome, cursorAt, valued, lowBits}
 use Rattle.hbc_io.specs.Answer.{told}
 use Rattle.hbc_buffer_literal.specs.declared.Literal.{Literal}
 use Rattle.hbc_buffer_literal.specs.declared.Literal.the-variants.{Null, Bool as Truth, Number, String, Integer}
-use Rattle.hbc_buffer_literal.specs.Literal.{kindOf, word32, literalAt}
+use Rattle.hbc_buffer_literal.specs.Literal.{kindOf, literalAt}
 use Rattle.hbc_buffer.specs.Series.{saysSeries, ReadSeries}
 use Rattle.hbc_buffer_object.specs.Object.{saysObject, ReadObject}
 use Rattle.hbc_c_code.specs.Code.{valueIn}
@@ -29,7 +29,7 @@ wordOf before Null = before
 wordOf before (Truth b) = before
 wordOf before (Number x) = before
 wordOf before (String n) = n
-wordOf before (Integer z) = word32 z
+wordOf before (Integer z) = lowBits 32 z
 
 -- a literal, told as the answer, the cursor, the kind, the float and the word
 pub record LiteralTold (o : Outcome Literal) (kind : ℕ) (number : Float) (word : ℕ) (r at kind′ : ℕ) (number′ : Float) (word′ : ℕ) : Type 0 where

@@ -1,6 +1,6 @@
 // The calls of hbc_buffer_literal, hbc_buffer and hbc_buffer_object for C and Rust, each behind an export of hbc_c.
 ghost use mathlib.Core.Path.{_≡_};
-ghost use Rattle.hbc_buffer_literal.specs.Literal.{word32};
+ghost use Rattle.hbc_io.specs.Outcome.{lowBits};
 ghost use Rattle.hbc_buffer_object.specs.Object.{saysObject};
 ghost use Rattle.hbc_c_code.specs.Code.{codeIn};
 ghost use Rattle.hbc_c_buffer.specs.Buffer.{ToldLiteral, ToldSeries, ToldObject};
@@ -13,7 +13,7 @@ use hbc_io::Cursor;
 
 // An integer as 32-bit two's complement.
 fn word_of(z: i32) -> u32
-    ensures { λ r. ⌜ r ≡ word32 z ⌝ }
+    ensures { λ r. ⌜ r ≡ lowBits 32 z ⌝ }
 {
     if z < 0 {
         0xffff_ffff - ((!z) as u32)

@@ -1,2 +1,3 @@
 pub mod ByLayouts
+pub mod Grounds
 pub mod OneRow

@@ -1,21 +1,23 @@
 -- docs/FORMAT.md, sections 8.1 and 8.2: the calls on function headers, with layouts and answers as numbers.
-use Prim.Native.Nat.{ℕ}
+use Prim.Native.Nat.{ℕ, _-_, _^_}
 use mathlib.Core.Path.{_≡_}
 use mathlib.Core.List.{List}
 use mathlib.Core.Bool.{Bool, true, false}
 use lib.ListN.{length}
 use Rattle.hbc_io.specs.Outcome.{refusalAt}
-use Rattle.hbc_io.specs.Answer.{Answer, asked}
+use Rattle.hbc_io.specs.Answer.{Answer, gives, refuses, asked}
 use Rattle.hbc_io.specs.Lends.{Lends}
 use Rattle.hbc_rows.specs.Rows.{putRow}
 use Rattle.hbc_function_record.specs.declared.Layout.{Layout}
 use Rattle.hbc_function_record.specs.declared.Layout.the-variants as lay
 use Rattle.hbc_function_record.specs.Row.{width}
-use Rattle.hbc_function_header.specs.Header.{saysReading, functionAt, opened}
-use Rattle.hbc_function_header.specs.Meets.{meetsIn}
+use Rattle.hbc_function_header.specs.declared.Ground.{Ground}
+use Rattle.hbc_function_header.specs.declared.Ground.the-variants as ground
+use Rattle.hbc_function_header.specs.Header.{saysReading, functionAt, opened, functionGround}
+use Rattle.hbc_function_header.specs.Meets.{functionMeets}
 use Rattle.hbc_function.specs.Table.{rowBy, roomed, ReadFunctions}
 use Rattle.hbc_function.specs.Refresh.{saysRefreshed, RefreshFunctions}
-use Rattle.hbc_c_code.specs.Code.{codeOf, always}
+use Rattle.hbc_c_code.specs.Code.{codeOf, codeIn, always}
 use Rattle.hbc_c_code.specs.Told.{Told}
 
 -- what is promised of a layout, by its number: 0 legacy, 1 modern; any other is malformed (12), and the words are as they were
@@ -59,11 +61,43 @@ RowRead s layout start i before = Told (always 1) itself (ReadRow s layout start
 abbrev pub ToldFunction : List ℕ → ℕ → ℕ → ℕ → List ℕ → ℕ → List ℕ → Type 0
 ToldFunction s layout start i before = ByLayout layout (λ l. RowRead s l start i before) before
 
--- ---- whether a function meets a span: 1 or 0
+-- ---- what a function is read from: accepted, the answer is 0, and two numbers lent for it hold the places; refused, they hold what they did
+
+pub record Places : Type 0 where
+  pub header : ℕ
+  pub large : ℕ
+
+abbrev pub places : ℕ → ℕ → Places
+places header large = record { header = header; large = large }
+
+-- in place of a large header's place, where there is none
+abbrev pub noPlace : ℕ
+noPlace = 2 ^ 64 - 1
+
+abbrev pub placesOf : Ground → Places → Places
+placesOf ground.None before = before
+placesOf (ground.Inline at) before = places at noPlace
+placesOf (ground.Large at place) before = places at place
+
+abbrev pub placesIn : Answer Ground → Places → Places
+placesIn (gives g) before = placesOf g before
+placesIn (refuses r) before = before
+
+pub record GroundTold (a : Answer Ground) (before : Places) (r : ℕ) (after : Places) : Type 0 where
+  pub says : r ≡ codeIn (always 0) a
+  pub holds : after ≡ placesIn a before
+
+abbrev pub GroundFound : List ℕ → Layout → ℕ → ℕ → Places → ℕ → Places → Type 0
+GroundFound s layout start i = GroundTold (functionGround s layout start i)
+
+abbrev pub ToldGround : List ℕ → ℕ → ℕ → ℕ → Places → ℕ → Places → Type 0
+ToldGround s layout start i before = ByLayout layout (λ l. GroundFound s l start i before) before
+
+-- ---- whether a function meets a span: accepted, 1 or 0
 
 abbrev pub truth : Bool → ℕ
 truth true = 1
 truth false = 0
 
 abbrev pub ToldMeets : List ℕ → ℕ → ℕ → ℕ → ℕ → ℕ → ℕ → Type 0
-ToldMeets s layout start i low high r = ByLayout {W = Unit {0}} layout (λ l n w. n ≡ truth (meetsIn s l start i low high)) tt r tt
+ToldMeets s layout start i low high r = ByLayout {W = Unit {0}} layout (λ l n w. n ≡ codeIn truth (functionMeets s l start i low high)) tt r tt

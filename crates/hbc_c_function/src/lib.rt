@@ -1,17 +1,25 @@
-// The calls on function headers for C and Rust, each behind an export of hbc_c. A layout is a number, 0 legacy and 1 modern; the low half of an
-// accepted answer is how many rows were written.
+// The calls on function headers for C and Rust, each behind an export of hbc_c. A layout is a number, 0 legacy and 1 modern; where
+// rows are written the low half of an accepted answer is how many.
 ghost use mathlib.Core.Path.{_≡_};
-ghost use Rattle.hbc_function_header.specs.Meets.{meetsIn};
-ghost use Rattle.hbc_c_function.specs.Function.{truth, TableRead, TableRefreshed, RowRead, ToldFunctions, ToldRefresh, ToldFunction, ToldMeets};
+ghost use Rattle.hbc_function_header.specs.Meets.{functionMeets};
+ghost use Rattle.hbc_c_code.specs.Code.{codeIn};
+ghost use Rattle.hbc_c_function.specs.Function.{truth, places, TableRead, TableRefreshed, RowRead, GroundFound};
+ghost use Rattle.hbc_c_function.specs.Function.{ToldFunctions, ToldRefresh, ToldFunction, ToldGround, ToldMeets};
 use hbc_c_code::code;
 use hbc_function::Refreshed;
+use hbc_function_header::Function;
+use hbc_function_header::Grounded;
+use hbc_function_header::Meeting;
 use hbc_function_header::Reading;
-use hbc_function_header::check_function;
-use hbc_function_header::function_row;
 use hbc_function_record::Layout;
 use hbc_function_record::WIDTH;
+use hbc_function_record::row_words;
 use hbc_io::LIMIT;
 use hbc_io::refuse;
+use hbc_rows::put_row;
+
+// In place of a large header's place, where there is none.
+pub const NO_PLACE: usize = 0xFFFF_FFFF_FFFF_FFFF;
 
 fn read_table(file: &[u8], layout: Layout, start: usize, count: u32, table: &mut [u32]) -> u64
     ensures { λ r. ⌜ TableRead (now (file .entry)) layout start count (now (table .entry)) r (now (table .exit)) ⌝ }
@@ -71,6 +79,7 @@ pub fn refresh_functions(
     code(refuse(12, 0))
 }
 
+// By way of the record: function_row is called in the loops over a table alone, so that it is made part of them.
 fn read_row(file: &[u8], layout: Layout, start: usize, id: u32, table: &mut [u32]) -> u64
     ensures { λ r. ⌜ RowRead (now (file .entry)) layout start id (now (table .entry)) r (now (table .exit)) ⌝ }
 {
@@ -83,12 +92,13 @@ fn read_row(file: &[u8], layout: Layout, start: usize, id: u32, table: &mut [u32
     if table.len() < WIDTH {
         return code(refuse(4, 0));
     }
-    match check_function(file, layout, start, id) {
-        Reading::Read => {
-            function_row(file, layout, start, id, &mut table[0..WIDTH]);
+    match hbc_function_header::read_function(file, layout, start, id) {
+        Function::Read(made) => {
+            let words = row_words(made);
+            put_row(table, 0, &words);
             1
         }
-        Reading::Refused(r) => code(r),
+        Function::Refused(r) => code(r),
     }
 }
 
@@ -105,13 +115,59 @@ pub fn read_function(file: &[u8], layout: u32, start: usize, id: u32, table: &mu
     code(refuse(12, 0))
 }
 
-fn meets_code(file: &[u8], layout: Layout, start: usize, id: u32, low: usize, high: usize) -> u64
-    ensures { λ r. ⌜ r ≡ truth (meetsIn (now (file .entry)) layout start id low high) ⌝ }
+fn ground_code(
+    file: &[u8],
+    layout: Layout,
+    start: usize,
+    id: u32,
+    header: &mut usize,
+    large: &mut usize,
+) -> u64
+    ensures { λ r. ⌜ GroundFound (now (file .entry)) layout start id (places (now (header .entry)) (now (large .entry)))
+        r (places (now (header .exit)) (now (large .exit))) ⌝ }
 {
-    if hbc_function_header::function_meets(file, layout, start, id, low, high) {
-        1
-    } else {
-        0
+    match hbc_function_header::function_ground(file, layout, start, id) {
+        Grounded::Inline(at) => {
+            *header = at;
+            *large = NO_PLACE;
+            0
+        }
+        Grounded::Large(at, place) => {
+            *header = at;
+            *large = place;
+            0
+        }
+        Grounded::Refused(r) => code(r),
+    }
+}
+
+// Where function `id` is read from: the place of its header, and that of its large one or NO_PLACE.
+pub fn function_ground(
+    file: &[u8],
+    layout: u32,
+    start: usize,
+    id: u32,
+    header: &mut usize,
+    large: &mut usize,
+) -> u64
+    ensures { λ r. ⌜ ToldGround (now (file .entry)) layout start id (places (now (header .entry)) (now (large .entry)))
+        r (places (now (header .exit)) (now (large .exit))) ⌝ }
+{
+    if layout == 0 {
+        return ground_code(file, Layout::Legacy16, start, id, header, large);
+    }
+    if layout == 1 {
+        return ground_code(file, Layout::Modern12, start, id, header, large);
+    }
+    code(refuse(12, 0))
+}
+
+fn meets_code(file: &[u8], layout: Layout, start: usize, id: u32, low: usize, high: usize) -> u64
+    ensures { λ r. ⌜ r ≡ codeIn truth (functionMeets (now (file .entry)) layout start id low high) ⌝ }
+{
+    match hbc_function_header::function_meets(file, layout, start, id, low, high) {
+        Meeting::Met(met) => met as u64,
+        Meeting::Refused(r) => code(r),
     }
 }
 

@@ -5,19 +5,38 @@ use mathlib.Core.Path.{_≡_}
 use mathlib.Core.List.{List, [], _∷_, _++_}
 use lib.IntN.{pos, negsuc}
 use lib.ListN.{length, replicate}
-use Rattle.hbc_claims_function.specs.Packed.{legacy, modern, legacyZeros, modernZeros}
+use Rattle.hbc_claims_law.specs.Terms.{packedAt}
+use Rattle.hbc_claims_function.specs.Packed.{legacy, modern}
 use Rattle.hbc_io.specs.Outcome.{got, valued, cursorAt}
-use Rattle.hbc_io.specs.Answer.{gives, refusedAt}
+use Rattle.hbc_io.specs.Answer.{Answer, gives, refusedAt}
 use Rattle.hbc_io.specs.Lends.{written}
 use Rattle.hbc_io_leb.specs.Leb.{lebBytes, signedOf}
+use Rattle.hbc_function_record.specs.declared.Layout.{Layout}
 use Rattle.hbc_function_record.specs.declared.Layout.the-variants.{Legacy16, Modern12}
+use Rattle.hbc_function_record.specs.declared.Record.{Record}
 use Rattle.hbc_function_record.specs.declared.Record.the-variants as rec
 use Rattle.hbc_function_record.specs.Record.{legacyPlace, modernPlace}
-use Rattle.hbc_function_header.specs.Header.{readFunction}
+use Rattle.hbc_function_record.specs.Row.{width}
+use Rattle.hbc_function_header.specs.Header.{functionAt, readFunction}
+use Rattle.hbc_function.specs.Table as functions
 use Rattle.hbc_table_strings.specs.Strings.{lesser, decodeAnswer, decodedRows}
 use Rattle.hbc_buffer.specs.Series.{seriesAnswer, seriesTables}
 
 -- function 0 of the table at 0 (P1, P2, P5) is answered by `readFunction`, the packed place of a record (P3, P4) by `legacyPlace` and `modernPlace`
+
+-- a flagged header at 0 that names the place behind it, and so many zeros there
+abbrev pub modernFile : ℕ → List ℕ
+modernFile zeros = 12 ∷ replicate 10 0 ++ 32 ∷ replicate zeros 0
+
+abbrev pub legacyFile : ℕ → List ℕ
+legacyFile zeros = 16 ∷ replicate 14 0 ++ 32 ∷ replicate zeros 0
+
+-- one function of the table at 0, whose packed place is this, in a file of so many bytes: what it is read as, and what a table of one row becomes
+abbrev pub Large : Layout → List ℕ → ℕ → ℕ → Answer Record → Answer (Unit {0}) → List ℕ → Type 0
+Large layout s place bytes one all row =
+    (packedAt s layout 0 ≡ place) × (length s ≡ bytes) × (readFunction s layout 0 0 ≡ one) × (functions.readAnswer s layout 0 1 width ≡ all)
+    × (written (functions.readAnswer s layout 0 1 width) (functions.putRows functions.all (functionAt s layout 0) (replicate width 9) 1)
+    (replicate width 9) ≡ row)
 
 -- so many strings of these runs and small entries, no pairs, storage of four bytes, over a lent table: the answer, and the table afterwards
 abbrev pub Decodes : ℕ → List ℕ → List ℕ → List ℕ → List ℕ → Type 0
@@ -34,18 +53,18 @@ Reads s count used kinds payloads =
 abbrev pub cases : List {1} (Type 0)
 cases =
     -- P1
-    (readFunction (0 ∷ 1 ∷ 0 ∷ 4 ∷ 10 ∷ 128 ∷ 1 ∷ 0 ∷ 0 ∷ 0 ∷ 0 ∷ 10 ∷ 1 ∷ 2 ∷ 3 ∷ 4 ∷ []) Legacy16 0 0 ≡ gives (rec.Legacy (legacy 0 256)))
+    (readFunction (0 ∷ 1 ∷ 0 ∷ 4 ∷ 10 ∷ 128 ∷ 1 ∷ 0 ∷ 0 ∷ 0 ∷ 0 ∷ 10 ∷ 1 ∷ 2 ∷ 3 ∷ 4 ∷ []) Legacy16 0 0 ≡ gives (rec.Legacy (legacy 256 2 10 3 0 5 1 2 3 4)))
     -- P2
-    ∷ (readFunction (0 ∷ 1 ∷ 0 ∷ 68 ∷ 10 ∷ 192 ∷ 0 ∷ 41 ∷ 6 ∷ 7 ∷ 72 ∷ 4 ∷ []) Modern12 0 0 ≡ gives (rec.Modern (modern 3 256)))
+    ∷ (readFunction (0 ∷ 1 ∷ 0 ∷ 68 ∷ 10 ∷ 192 ∷ 0 ∷ 41 ∷ 6 ∷ 7 ∷ 72 ∷ 4 ∷ []) Modern12 0 0 ≡ gives (rec.Modern (modern 256 2 1 10 3 4 5 6 7 8 1 0 4 0)))
     -- P3
-    ∷ (legacyPlace (legacy 1 65552) ≡ 65552)
+    ∷ (legacyPlace (legacy 65552 2 10 3 1 5 1 2 3 4) ≡ 65552)
     -- P4
-    ∷ (modernPlace (modern 1 16777248) ≡ 16777248)
+    ∷ (modernPlace (modern 16777248 2 1 10 1 4 5 6 7 8 1 0 4 0) ≡ 16777248)
     -- P5
-    ∷ (readFunction (12 ∷ replicate 10 0 ++ 32 ∷ replicate 37 0) Modern12 0 0 ≡ gives (rec.Modern (modernZeros 0 52)))
-    ∷ (readFunction (12 ∷ replicate 10 0 ++ 32 ∷ replicate 36 0) Modern12 0 0 ≡ refusedAt 3 0)
-    ∷ (readFunction (16 ∷ replicate 14 0 ++ 32 ∷ replicate 31 0) Legacy16 0 0 ≡ gives (rec.Legacy (legacyZeros 0)))
-    ∷ (readFunction (16 ∷ replicate 14 0 ++ 32 ∷ replicate 30 0) Legacy16 0 0 ≡ refusedAt 3 0)
+    ∷ Large Modern12 (modernFile 37) 12 49 (gives (rec.Modern (modern 0 0 0 0 0 0 0 0 0 0 0 0 0 52))) (gives tt) (1 ∷ replicate 5 0 ++ 52 ∷ replicate 9 0)
+    ∷ Large Modern12 (modernFile 36) 12 48 (refusedAt 3 0) (refusedAt 3 0) (replicate 16 9)
+    ∷ Large Legacy16 (legacyFile 31) 16 47 (gives (rec.Legacy (legacy 0 0 0 0 0 0 0 0 0 0))) (gives tt) (replicate 16 0)
+    ∷ Large Legacy16 (legacyFile 30) 16 46 (refusedAt 3 0) (refusedAt 3 0) (replicate 16 9)
     -- P6: start 3 length 0 is valid, start 4 length 0 is not
     ∷ Decodes 1 [] (6 ∷ []) (9 ∷ 9 ∷ 9 ∷ 9 ∷ []) (3 ∷ 0 ∷ 0 ∷ 0 ∷ [])
     ∷ Decodes 1 [] (8 ∷ []) (9 ∷ 9 ∷ 9 ∷ 9 ∷ []) (0 ∷ 0 ∷ 1 ∷ 0 ∷ [])

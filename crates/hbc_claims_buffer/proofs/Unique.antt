@@ -4,7 +4,7 @@ use mathlib.Core.Path.{_≡_, refl}
 use mathlib.Core.List.{List}
 use native.Mathlib.Omega.{arith}
 use Rattle.hbc_io.proofs.Reading.{not-both}
-use Rattle.hbc_io.proofs.Alone.{oneU64}
+use Rattle.hbc_io.proofs.Alone.{oneU64, onePart}
 use Rattle.hbc_io.proofs.Exits.{alone}
 use Rattle.hbc_buffer_literal.specs.declared.ReadLiteral.{ReadLiteral}
 use Rattle.hbc_buffer_literal.specs.declared.ReadLiteral.the-variants as lit
@@ -41,5 +41,5 @@ unique = record {
   read_literal = λ k a r q s u e f. oneLiteral r q (same e f);
   read_series = λ k a r q s u e f. both (alone oneSeries e f);
   read_object = λ k a r q s u e f. both (alone (λ x y h. h) e f);
-  object_part = λ k a r q s u. same;
+  object_part = λ k a r q s u. onePart;
 }

@@ -66,11 +66,11 @@ step-reach s t c u n h e =
     let r : Reach s (p .1) (cursorAt (p .1 .at + widthOf (p .0 .tag))) = record { up = omega arith; within = g .room } in
     reach-on a (subst (Reach s (p .1)) (sym (g .next)) r)
 
-placed-got : (k : ℕ) (o : Outcome Run) (u : Run) (n : Cursor) → placed k o ≡ got u n → o ≡ got u n
+pub placed-got : (k : ℕ) (o : Outcome Run) (u : Run) (n : Cursor) → placed k o ≡ got u n → o ≡ got u n
 placed-got k (got v m) u n e = e
 placed-got k (refused r m) u n e = absurd (not-both e refl)
 
-after-reach : (k : ℕ) (s : List ℕ) (c : Cursor) (u : Run) (n : Cursor) → c .at ≤ length s → after k s c ≡ got u n → Reach s c n
+pub after-reach : (k : ℕ) (s : List ℕ) (c : Cursor) (u : Run) (n : Cursor) → c .at ≤ length s → after k s c ≡ got u n → Reach s c n
 unfolding after
 after-reach zero s c u n h e = reach-self h cc
 after-reach (suc k) s c u n h e =
@@ -78,10 +78,10 @@ after-reach (suc k) s c u n h e =
     let a = after-reach k s c (p .0) (p .1) h (p .2) in
     reach-on a (step-reach s (p .0) (p .1) u n (a .within) (placed-got k (step s (p .0) (p .1)) u n (p .3)))
 
-not-used : {r : Refusal} {n : ℕ} → refuses r ≡ gives n → ⊥
+pub not-used : {r : Refusal} {n : ℕ} → refuses r ≡ gives n → ⊥
 not-used e = let z : _≡_ {A = ℕ} 0 1 = cc in omega arith
 
-past-none : (b : Bool) (x : Answer ℕ) (n : ℕ) → b ≡ false → cond b (gives 0) x ≡ gives n → x ≡ gives n
+pub past-none : (b : Bool) (x : Answer ℕ) (n : ℕ) → b ≡ false → cond b (gives 0) x ≡ gives n → x ≡ gives n
 past-none b x n h e = ap (λ (c : Bool). cond c (gives 0) x) (sym h) ∙ e
 
 used-reach : (s : List ℕ) (offset n : ℕ) (o : Outcome Run) → usedOf offset o ≡ gives n
@@ -105,7 +105,7 @@ module _ (s : List ℕ) (offset count kinds payloads n : ℕ) where
   unfolding seriesAnswer
   used-short e = reached limit (length s) _ _ not-used e .0
 
-  used-none : eqb count 0 ≡ true → seriesAnswer s offset count kinds payloads ≡ gives n → 0 ≡ n
+  pub used-none : eqb count 0 ≡ true → seriesAnswer s offset count kinds payloads ≡ gives n → 0 ≡ n
   unfolding seriesAnswer choose
   used-none q e =
       let a = reached limit (length s) _ _ not-used e .1 in

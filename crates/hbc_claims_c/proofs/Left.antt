@@ -24,7 +24,8 @@ use Rattle.hbc_io_leb.specs.Leb.{lebBytes}
 use Rattle.hbc_io_strings.specs.Text.{zeroEnded, prefixed}
 use Rattle.hbc_rows.specs.Rows.{rows}
 use Rattle.hbc_function_record.specs.declared.Layout.{Layout}
-use Rattle.hbc_function_header.specs.Header.{functionAt}
+use Rattle.hbc_function_header.specs.declared.Ground.{Ground}
+use Rattle.hbc_function_header.specs.Header.{functionAt, functionGround}
 use Rattle.hbc_function_header.specs.Meets.{meets}
 use Rattle.hbc_function.specs.Refresh.{refreshAnswer}
 use Rattle.hbc_table.specs.Table.{ReadTable}
@@ -41,15 +42,14 @@ use Rattle.hbc_c_code.specs.Code.{codeOf, codeIn, always}
 use Rattle.hbc_c_code.specs.Told.{Told, ToldValue, Moves, Reads}
 use Rattle.hbc_c_code.proofs.Tolds.{left}
 use Rattle.hbc_c_io.specs.Io.{ReadsSpan}
-use Rattle.hbc_c_function.specs.Function.{ToldFunctions, ToldRefresh, ToldFunction}
+use Rattle.hbc_c_function.specs.Function.{Places, GroundTold, ToldFunctions, ToldRefresh, ToldFunction, ToldGround}
 use Rattle.hbc_c_function.proofs.ByLayouts.{by-layout}
 use Rattle.hbc_c_table.specs.Table.{ToldTable, ToldStrings}
 use Rattle.hbc_c_buffer.specs.Buffer.{yesOf, LiteralTold, ToldLiteral, ToldSeries, ToldObject}
 use Rattle.hbc_c_parsing.specs.Parsing.{sectionWidth, intoBy, sectionsAnswer, ToldHandlers, ToldSections}
 use Rattle.hbc_c_debug.specs.Debug.{ToldDebug}
-use Rattle.hbc_claims_io.specs.Left.{lebLeft, textLeft, PrefixLeft}
+use Rattle.hbc_claims_law.specs.Terms.{countOf, lebLeft, textLeft, PrefixLeft}
 use Rattle.hbc_claims_io.proofs.Left.{plain-left, number-left, bytes-left, seek-left, align-left, leb-left, zero-left, prefix-left}
-use Rattle.hbc_claims_function.specs.Tables.{countOf}
 use Rattle.hbc_claims_function.proofs.Scans.{count-le, scan-counts}
 use Rattle.hbc_claims_function.proofs.Accepted.{refreshable}
 use Rattle.hbc_claims_table.proofs.Tables.{table-left}
@@ -139,6 +139,14 @@ module _ (n : ℕ) (s : List ℕ) (start : ℕ) (t : List ℕ) {r : ℕ} {t′ :
 
   pub hbc-function : (i : ℕ) → ToldFunction s n start i t r t′ → t′ ≡ t
   hbc-function i = by-layout (λ l. left (λ a e q. omega arith)) (λ p. p .1)
+
+ground-kept : (a : Answer Ground) {before after : Places} {r : ℕ} → (r ≡ 0 → ⊥) → GroundTold a before r after → after ≡ before
+ground-kept (gives g) h v = absurd (h (v .says))
+ground-kept (refuses k) h v = v .holds
+
+pub hbc-ground : (n : ℕ) (s : List ℕ) (start i : ℕ) (before : Places) {r : ℕ} {after : Places} → (r ≡ 0 → ⊥) → ToldGround s n start i before r after
+    → after ≡ before
+hbc-ground n s start i before h = by-layout (λ l. ground-kept (functionGround s l start i) h) (λ p. p .1)
 
 -- ---- string tables
 

@@ -51,6 +51,7 @@ unique = record {
   hbc_read_functions = λ k a r q s u. alone-by (λ l. told.alone (λ x y. alone one-reading));
   hbc_refresh_functions = λ k a r q s u. alone-by (λ l. told.alone (λ x y. alone one-refreshed));
   hbc_read_function = λ k a r q s u. alone-by (λ l. told.alone (λ x y. alone (λ v w e. e)));
+  hbc_function_ground = λ k a r q s u. alone-by (λ l v w. (same (v .says) (w .says), same (v .holds) (w .holds)));
   hbc_function_meets = λ k a r q s u e f. alone-by (λ l v w. (same v w, refl)) e f .0;
   hbc_read_u32_table = λ k a r q s u. told.from-alone (λ x y. alone oneMoved);
   hbc_read_pair_table = λ k a r q s u. told.from-alone (λ x y. alone oneMoved);

@@ -2,6 +2,7 @@
 -- was lent, in the order of its parameters; and so does `code`, by which they tell a refusal.
 use denote.Ref.{now}
 use Rattle.hbc_debug.specs.Debug.{tables}
+use Rattle.hbc_c_function.specs.Function.{places}
 use Rattle.hbc_c_debug.specs.Debug.{counts}
 use Rattle.hbc_claims_law.specs.Law.{One, Words, Both, Both2, Both3}
 use Rattle.hbc_c_code.proofs.code.Reads as of-code
@@ -24,6 +25,7 @@ use Rattle.hbc_c.proofs.io.hbc_read_length_prefixed_string.Reads as of-read-len
 use Rattle.hbc_c.proofs.function.hbc_read_functions.Reads as of-read-functions
 use Rattle.hbc_c.proofs.function.hbc_refresh_functions.Reads as of-refresh-functions
 use Rattle.hbc_c.proofs.function.hbc_read_function.Reads as of-read-function
+use Rattle.hbc_c.proofs.function.hbc_function_ground.Reads as of-function-ground
 use Rattle.hbc_c.proofs.function.hbc_function_meets.Reads as of-function-meets
 use Rattle.hbc_c.proofs.table.hbc_read_u32_table.Reads as of-read-u32-table
 use Rattle.hbc_c.proofs.table.hbc_read_pair_table.Reads as of-read-pair-table
@@ -58,6 +60,7 @@ pub record Unique : Type 0 where
   pub hbc_read_functions : Both of-read-functions.Learnt (λ s. now (s .1 .1 .1 .1 .0))
   pub hbc_refresh_functions : Both of-refresh-functions.Learnt (λ s. now (s .1 .1 .1 .1 .1 .1 .0))
   pub hbc_read_function : Both of-read-function.Learnt (λ s. now (s .1 .1 .1 .1 .0))
+  pub hbc_function_ground : Both of-function-ground.Learnt (λ s. places (now (s .1 .1 .1 .1 .0)) (now (s .1 .1 .1 .1 .1 .0)))
   pub hbc_function_meets : One of-function-meets.Learnt
   pub hbc_read_u32_table : Both2 of-read-u32-table.Learnt (λ s. now (s .1 .0)) (λ s. now (s .1 .1 .1 .0))
   pub hbc_read_pair_table : Both2 of-read-pair-table.Learnt (λ s. now (s .1 .0)) (λ s. now (s .1 .1 .1 .0))

@@ -8,7 +8,8 @@ use borrow.Author.Tests.{eqb-true, eqb-false, eq-eqb}
 use lib.Dec.{eqb}
 use Rattle.hbc_debug_callees.specs.Callees.{addresses, Found, none, name, Callee, calleeIf, risingBelow, lastName, after1, calleesOf, pairsOf}
 use Rattle.hbc_debug_callees.specs.declared.Pair.{Pair}
-use Rattle.hbc_claims_debug.specs.Callees.{Between, Either, left, right, Row, Silent, Names, Last, Rows, CalleesRead}
+use Rattle.hbc_claims_law.specs.Terms.{Either, left, right}
+use Rattle.hbc_claims_debug.specs.Callees.{Between, Row, Silent, Names, Last, Rows, CalleesRead}
 
 -- ---- the last name
 

@@ -1,23 +1,65 @@
 -- Each call leaves one outcome: its promise fixes the answer and every lent word.
-use mathlib.Core.Path.{ap, _∙_}
+use mathlib.Core.Path.{_≡_, refl, sym}
 use Prim.Native.Nat.{ℕ}
+use Rattle.hbc_io.proofs.Alone.{onePart}
+use native.Mathlib.Omega.{arith}
+use Rattle.hbc_io.specs.Answer.{gives, refuses}
+use Rattle.hbc_io.specs.declared.Refusal.{Refusal}
 use Rattle.hbc_io.proofs.Exits.{alone}
+use Rattle.hbc_debug_parts.specs.declared.Written.{Written}
+use Rattle.hbc_debug_parts.specs.declared.Written.the-variants as wrote
+use Rattle.hbc_debug_parts.specs.Lists.{saysWritten}
 use Rattle.hbc_debug_parts.proofs.Alone.{oneParts}
+use Rattle.hbc_debug_strings.specs.declared.StringsCounted.{StringsCounted}
+use Rattle.hbc_debug_strings.specs.declared.StringsCounted.the-variants as strings
+use Rattle.hbc_debug_strings.specs.Strings.{saysStringsCounted}
+use Rattle.hbc_debug_scopes.specs.declared.ScopesCounted.{ScopesCounted}
+use Rattle.hbc_debug_scopes.specs.declared.ScopesCounted.the-variants as scopes
+use Rattle.hbc_debug_scopes.specs.Scopes.{saysScopesCounted}
+use Rattle.hbc_debug_callees.specs.declared.CalleesCounted.{CalleesCounted}
+use Rattle.hbc_debug_callees.specs.declared.CalleesCounted.the-variants as callees
+use Rattle.hbc_debug_callees.specs.Callees.{saysCalleesCounted}
 use Rattle.hbc_debug.proofs.Alone.{oneDebugged}
 use Rattle.hbc_claims_law.proofs.Law.{same}
 use Rattle.hbc_claims_debug.specs.Unique.{Unique}
 
+no-gives : {A : Type 0} {x : Refusal} {a : A} → refuses x ≡ gives a → ⊥
+no-gives e = let z : _≡_ {A = ℕ} 0 1 = cc in omega arith
+
+-- an answer is known by what it says
+one-written : (a b : Written) → saysWritten a ≡ saysWritten b → a ≡ b
+one-written wrote.Rows wrote.Rows e = refl
+one-written (wrote.Refused r) (wrote.Refused q) e = cc
+one-written wrote.Rows (wrote.Refused q) e = absurd (no-gives (sym e))
+one-written (wrote.Refused r) wrote.Rows e = absurd (no-gives e)
+
+one-strings : (a b : StringsCounted) → saysStringsCounted a ≡ saysStringsCounted b → a ≡ b
+one-strings (strings.Counts n) (strings.Counts m) e = cc
+one-strings (strings.Refused r) (strings.Refused q) e = cc
+one-strings (strings.Counts n) (strings.Refused q) e = absurd (no-gives (sym e))
+one-strings (strings.Refused r) (strings.Counts m) e = absurd (no-gives e)
+
+one-scopes : (a b : ScopesCounted) → saysScopesCounted a ≡ saysScopesCounted b → a ≡ b
+one-scopes (scopes.Counts n) (scopes.Counts m) e = cc
+one-scopes (scopes.Refused r) (scopes.Refused q) e = cc
+one-scopes (scopes.Counts n) (scopes.Refused q) e = absurd (no-gives (sym e))
+one-scopes (scopes.Refused r) (scopes.Counts m) e = absurd (no-gives e)
+
+one-callees : (a b : CalleesCounted) → saysCalleesCounted a ≡ saysCalleesCounted b → a ≡ b
+one-callees (callees.Counts n) (callees.Counts m) e = cc
+one-callees (callees.Refused r) (callees.Refused q) e = cc
+one-callees (callees.Counts n) (callees.Refused q) e = absurd (no-gives (sym e))
+one-callees (callees.Refused r) (callees.Counts m) e = absurd (no-gives e)
+
 pub unique : Unique
 unique = record {
   find_parts = λ k a r q s u e f. oneParts r q (same e f);
-  part_bytes = λ k a r q s u. same;
-  count_strings = λ k a r q s u e f. ap (λ (n : ℕ). record { strings = n }) (same e f);
-  write_strings = λ k a r q s u. same;
-  count_scopes = λ k a r q s u e f.
-      ap (λ (n : ℕ). record { scopes = n; names = r .names }) (same (e .scopes-are) (f .scopes-are))
-      ∙ ap (λ (n : ℕ). record { scopes = q .scopes; names = n }) (same (e .names-are) (f .names-are));
-  write_scopes = λ k a r q s u e f. let g = same (e .rows-are) (f .rows-are) in let h = same (e .names-are) (f .names-are) in cc;
-  count_callees = λ k a r q s u e f. ap (λ (n : ℕ). record { callees = n }) (same e f);
-  write_callees = λ k a r q s u. same;
+  part_bytes = λ k a r q s u. onePart;
+  count_strings = λ k a r q s u e f. one-strings r q (same e f);
+  write_strings = λ k a r q s u. alone one-written;
+  count_scopes = λ k a r q s u e f. one-scopes r q (same e f);
+  write_scopes = λ k a r q s u. alone one-written;
+  count_callees = λ k a r q s u e f. one-callees r q (same e f);
+  write_callees = λ k a r q s u. alone one-written;
   read_debug = λ k a r q s u. alone oneDebugged;
 }

@@ -5,15 +5,12 @@ use mathlib.Core.List.{List, [], _∷_}
 use Prim.Native.Nat.{ℕ, suc, _≤_, _<_}
 use Rattle.hbc_debug_callees.specs.Callees.{addresses, Callee, calleesOf, pairsOf}
 use Rattle.hbc_debug_callees.specs.declared.Pair.{Pair}
+use Rattle.hbc_claims_law.specs.Terms.{Either}
 
 -- rows from lo up and below hi, each address above the one before: sorted, and one row an address
 abbrev pub Between : ℕ → ℕ → List Callee → Type 0
 Between lo hi [] = lo ≤ hi
 Between lo hi (x ∷ xs) = (lo ≤ x .address) × Between (suc (x .address)) hi xs
-
-pub data Either (A B : Type 0) : Type 0 where
-  left : A → Either A B
-  right : B → Either A B
 
 -- x is one of the rows
 abbrev pub Row : Callee → List Callee → Type 0

@@ -12,16 +12,16 @@ use Rattle.hbc_debug_scopes.proofs.write_scopes.Reads as of-write-scopes
 use Rattle.hbc_debug_callees.proofs.count_callees.Reads as of-count-callees
 use Rattle.hbc_debug_callees.proofs.write_callees.Reads as of-write-callees
 use Rattle.hbc_debug.proofs.read_debug.Reads as of-read-debug
-use Rattle.hbc_claims_law.specs.Law.{One, Seen, Words, Both}
+use Rattle.hbc_claims_law.specs.Law.{One, OnePart, Both}
 
 -- the calls by name
 pub record Unique : Type 0 where
   pub find_parts : One of-find-parts.Learnt
-  pub part_bytes : Seen of-part-bytes.Learnt (λ r. now r)
+  pub part_bytes : OnePart of-part-bytes.Learnt
   pub count_strings : One of-count-strings.Learnt
-  pub write_strings : Words of-write-strings.Learnt (λ s. now (s .1 .1 .0))
+  pub write_strings : Both of-write-strings.Learnt (λ s. now (s .1 .1 .1 .0))
   pub count_scopes : One of-count-scopes.Learnt
-  pub write_scopes : Words of-write-scopes.Learnt {W = List ℕ × List ℕ} (λ s. (now (s .1 .1 .0), now (s .1 .1 .1 .0)))
+  pub write_scopes : Both of-write-scopes.Learnt {W = List ℕ × List ℕ} (λ s. (now (s .1 .1 .1 .0), now (s .1 .1 .1 .1 .0)))
   pub count_callees : One of-count-callees.Learnt
-  pub write_callees : Words of-write-callees.Learnt (λ s. now (s .1 .1 .0))
+  pub write_callees : Both of-write-callees.Learnt (λ s. now (s .1 .1 .1 .0))
   pub read_debug : Both of-read-debug.Learnt (λ s. tables (now (s .1 .1 .0)) (now (s .1 .1 .1 .0)) (now (s .1 .1 .1 .1 .0)) (now (s .1 .1 .1 .1 .1 .0)))

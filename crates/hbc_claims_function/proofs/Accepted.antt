@@ -1,18 +1,12 @@
 -- What an accepted call says of its tests, and what a refused one leaves.
 use Prim.Native.Nat.{ℕ}
-use mathlib.Core.Path.{_≡_, refl, ap, _∙_}
+use mathlib.Core.Path.{_≡_, refl}
 use mathlib.Core.List.{List}
-use mathlib.Core.Bool.{Bool, true, false, cond}
-use lib.ListN.{length}
-use lib.Dec.{eqb}
-use borrow.Author.Tests.{ne-eqb}
 use Rattle.hbc_io.specs.declared.Refusal.{Refusal}
 use Rattle.hbc_function_record.specs.declared.Layout.{Layout}
-use Rattle.hbc_function_record.specs.declared.Record.{Record}
 use Rattle.hbc_function_header.specs.declared.Reading.the-variants as reading
 use Rattle.hbc_io.specs.Answer.{Answer, gives, refuses, asked}
-use Rattle.hbc_function_header.specs.Header.{functionAt, rowOf, rowInto}
-use Rattle.hbc_function_record.specs.Row.{width}
+use Rattle.hbc_function_header.specs.Header.{functionAt, FunctionRow}
 use Rattle.hbc_function.specs.declared.Refreshed.the-variants as refreshed
 use Rattle.hbc_function.specs.Table.{scan, all, readAnswer, ReadFunctions}
 use Rattle.hbc_function.specs.Refresh.{refreshAnswer, RefreshFunctions}
@@ -45,10 +39,6 @@ refreshable s layout start count low high words k e =
     let g = reached _ _ _ _ no-gives (f .1) in
     record { holds = f .0; scans = g .1 }
 
-same-both : {A : Type 0} (b : Bool) (x : A) → cond b x x ≡ x
-same-both true x = refl
-same-both false x = refl
-
 -- a refusal leaves the table
 pub read-left : (s : List ℕ) (layout : Layout) (start count : ℕ) {x : Refusal} {t t′ : List ℕ} → ReadFunctions s layout start count t (reading.Refused x) t′ → t′ ≡ t
 read-left s layout start count p = p .leaves
@@ -57,11 +47,5 @@ pub was-left : (s : List ℕ) (layout : Layout) (start count low high : ℕ) {x 
     → t′ ≡ t
 was-left s layout start count low high p = p .leaves
 
--- a row of a function that is refused, and words that are not one row
-pub row-left : (a : Answer Record) (x : Refusal) (before : List ℕ) → a ≡ refuses x → rowInto a before ≡ before
-unfolding rowInto
-row-left a x before e = ap (λ (o : Answer Record). cond (eqb (length before) width) (rowOf o before) before) e ∙ same-both (eqb (length before) width) before
-
-pub no-row : (a : Answer Record) (before : List ℕ) → (length before ≡ width → ⊥) → rowInto a before ≡ before
-unfolding rowInto
-no-row a before h = rw (ne-eqb (length before) width h)
+pub row-left : (s : List ℕ) (layout : Layout) (start i : ℕ) {x : Refusal} {t t′ : List ℕ} → FunctionRow s layout start i t (reading.Refused x) t′ → t′ ≡ t
+row-left s layout start i p = p .leaves

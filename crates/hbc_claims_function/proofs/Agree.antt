@@ -9,7 +9,8 @@ use lib.Seq.{take-nil}
 use Rattle.hbc_bits.specs.Bits.{littleEndian, leAt}
 use Rattle.hbc_function_header.specs.Meets.{overlap}
 use Rattle.hbc_function_header.proofs.Meetings.{shares}
-use Rattle.hbc_claims_function.specs.Agree.{Agree, Same}
+use Rattle.hbc_claims_law.specs.Terms.{Same}
+use Rattle.hbc_claims_function.specs.Agree.{Agree}
 
 pub never : true ≡ false → ⊥
 never e = let z : _≡_ {A = ℕ} 0 1 = cc in omega arith

@@ -24,7 +24,8 @@ use Rattle.hbc_io.specs.Answer.{gives, asked}
 use Rattle.hbc_function_record.specs.Record.{sizeOf, largeOf, inlineOf, largeAt, linkOf, legacyLarge, modernLarge}
 use Rattle.hbc_function_header.specs.Header.{headerAt, groundBy, groundOf, groundAt, whereOf, whereAt, found, recordAt, functionAt}
 use Rattle.hbc_function_header.specs.Meets.{overlap, groundMeets, meets}
-use Rattle.hbc_claims_function.specs.Agree.{Agree, Same}
+use Rattle.hbc_claims_law.specs.Terms.{Same}
+use Rattle.hbc_claims_function.specs.Agree.{Agree}
 use Rattle.hbc_claims_function.proofs.Agree.{agrees, same-num}
 
 module _ (a b : List ℕ) (at i : ℕ) where

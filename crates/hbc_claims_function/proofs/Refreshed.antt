@@ -22,7 +22,7 @@ use Rattle.hbc_function.specs.declared.Refreshed.the-variants as refreshed
 use Rattle.hbc_function.specs.Table.{scan, putRows, all, readAnswer, ReadFunctions}
 use Rattle.hbc_function.specs.Refresh.{saysRefreshed, held, refreshAnswer, RefreshFunctions}
 use Rattle.hbc_function.proofs.Laws.{put-length, scanned, met}
-use Rattle.hbc_claims_function.specs.Agree.{Same}
+use Rattle.hbc_claims_law.specs.Terms.{Same}
 use Rattle.hbc_claims_function.proofs.Function.{function-same}
 use Rattle.hbc_claims_function.proofs.Words.{word-at, word-kept, word-past}
 use Rattle.hbc_claims_function.proofs.Scans.{no-gives, a-record, scan-each, alike, all-held}

@@ -18,7 +18,7 @@ use Rattle.hbc_function.specs.Table.{counted, step, scan, all}
 use Rattle.hbc_function.specs.Refresh.{held}
 use Rattle.hbc_function.proofs.Laws.{size-pos}
 use Rattle.hbc_claims_function.proofs.Function.{ends}
-use Rattle.hbc_claims_function.specs.Tables.{countOf}
+use Rattle.hbc_claims_law.specs.Terms.{countOf}
 
 pub no-gives : {A : Type 0} {x : Refusal} {a : A} → refuses x ≡ gives a → ⊥
 no-gives e = let z : _≡_ {A = ℕ} 0 1 = cc in omega arith

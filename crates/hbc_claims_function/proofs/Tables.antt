@@ -17,7 +17,8 @@ use Rattle.hbc_function.specs.Refresh.{RefreshFunctions}
 use Rattle.hbc_claims_function.proofs.Words.{word-at, word-kept, word-behind}
 use Rattle.hbc_claims_function.proofs.Scans.{a-record, scan-each, scan-counts}
 use Rattle.hbc_claims_function.proofs.Accepted.{accepted, refreshable}
-use Rattle.hbc_claims_function.specs.Tables.{RowWord, Filled, Rewritten}
+use Rattle.hbc_claims_law.specs.Terms.{RowWord}
+use Rattle.hbc_claims_function.specs.Tables.{Filled, Rewritten}
 
 -- word c of row i, where functions 0 to n - 1 were put and i is one that was chosen
 row-word : (chosen : ℕ → Bool) (s : List ℕ) (layout : Layout) (start n k : ℕ) (t : List ℕ) → n * width ≤ length t → scan chosen (functionAt s layout start) n ≡ gives k
@@ -31,9 +32,8 @@ pub filled : {s : List ℕ} {layout : Layout} {start count : ℕ} {t t′ : List
 filled {s} {layout} {start} {count} {t} {t′} p =
     let a = accepted s layout start count (length t) (sym (p .says)) in
     rw (p .leaves) (record {
-      long = put-length all (functionAt s layout start) t count;
       rows = λ i c l q. row-word all s layout start count (a .number) t (a .holds) (a .scans) i c l refl q;
-      behind = word-behind all (functionAt s layout start) t count;
+      behind = record { rest = word-behind all (functionAt s layout start) t count; long = put-length all (functionAt s layout start) t count };
     })
 
 pub rewritten : {s : List ℕ} {layout : Layout} {start count low high k : ℕ} {t t′ : List ℕ} → RefreshFunctions s layout start count low high t (refreshed.Done k) t′
@@ -43,8 +43,7 @@ rewritten {s} {layout} {start} {count} {low} {high} {k} {t} {t′} p =
     let m = meets s layout start low high in
     rw (p .leaves) (record {
       counts = scan-counts m (functionAt s layout start) count k (a .scans);
-      long = put-length m (functionAt s layout start) t count;
       met = row-word m s layout start count k t (a .holds) (a .scans);
       unmet = λ i c e q. word-kept m (functionAt s layout start) t count i c q e;
-      behind = word-behind m (functionAt s layout start) t count;
+      behind = record { rest = word-behind m (functionAt s layout start) t count; long = put-length m (functionAt s layout start) t count };
     })

@@ -1,11 +1,18 @@
 -- Each call leaves one outcome: its promise fixes the answer and every lent word.
+use Prim.Native.Nat.{ℕ}
 use mathlib.Core.Path.{_≡_, refl, sym}
+use native.Mathlib.Omega.{arith}
 use Rattle.hbc_io.proofs.Exits.{alone}
 use Rattle.hbc_function_header.specs.declared.Function.{Function}
 use Rattle.hbc_function_header.specs.declared.Function.the-variants as fun
 use Rattle.hbc_function_header.specs.declared.Reading.{Reading}
 use Rattle.hbc_function_header.specs.declared.Reading.the-variants as reading
-use Rattle.hbc_function_header.specs.Header.{saysFunction, saysReading}
+use Rattle.hbc_function_header.specs.declared.Grounded.{Grounded}
+use Rattle.hbc_function_header.specs.declared.Grounded.the-variants as grounded
+use Rattle.hbc_function_header.specs.declared.Meeting.{Meeting}
+use Rattle.hbc_function_header.specs.declared.Meeting.the-variants as meeting
+use Rattle.hbc_function_header.specs.Header.{saysFunction, saysReading, saysGrounded}
+use Rattle.hbc_function_header.specs.Meets.{saysMeeting}
 use Rattle.hbc_function.specs.declared.Refreshed.{Refreshed}
 use Rattle.hbc_function.specs.declared.Refreshed.the-variants as refreshed
 use Rattle.hbc_function.specs.Refresh.{saysRefreshed}
@@ -26,6 +33,23 @@ one-reading (reading.Refused r) (reading.Refused q) e = cc
 one-reading reading.Read (reading.Refused q) e = absurd (no-gives (sym e))
 one-reading (reading.Refused r) reading.Read e = absurd (no-gives e)
 
+pub one-grounded : (a b : Grounded) → saysGrounded a ≡ saysGrounded b → a ≡ b
+one-grounded (grounded.Inline at) (grounded.Inline by) e = let p : at ≡ by = cc in rw p
+one-grounded (grounded.Large at p) (grounded.Large by q) e = let f : at ≡ by = cc in let g : p ≡ q = cc in rw (f, g)
+one-grounded (grounded.Refused r) (grounded.Refused q) e = cc
+one-grounded (grounded.Inline at) (grounded.Large by q) e = let z : _≡_ {A = ℕ} 0 1 = cc in absurd (omega arith)
+one-grounded (grounded.Large at p) (grounded.Inline by) e = let z : _≡_ {A = ℕ} 0 1 = cc in absurd (omega arith)
+one-grounded (grounded.Inline at) (grounded.Refused q) e = absurd (no-gives (sym e))
+one-grounded (grounded.Large at p) (grounded.Refused q) e = absurd (no-gives (sym e))
+one-grounded (grounded.Refused r) (grounded.Inline by) e = absurd (no-gives e)
+one-grounded (grounded.Refused r) (grounded.Large by q) e = absurd (no-gives e)
+
+pub one-meeting : (a b : Meeting) → saysMeeting a ≡ saysMeeting b → a ≡ b
+one-meeting (meeting.Met r) (meeting.Met q) e = cc
+one-meeting (meeting.Refused r) (meeting.Refused q) e = cc
+one-meeting (meeting.Met r) (meeting.Refused q) e = absurd (no-gives (sym e))
+one-meeting (meeting.Refused r) (meeting.Met q) e = absurd (no-gives e)
+
 pub one-refreshed : (a b : Refreshed) → saysRefreshed a ≡ saysRefreshed b → a ≡ b
 one-refreshed (refreshed.Done r) (refreshed.Done q) e = cc
 one-refreshed (refreshed.Refused r) (refreshed.Refused q) e = cc
@@ -42,9 +66,9 @@ unique = record {
   row_words = λ k a r q s u. same;
   read_function = λ k a r q s u e f. one-function r q (same e f);
   check_function = λ k a r q s u e f. one-reading r q (same e f);
-  function_row = λ k a r q s u. same;
-  function_ground = λ k a r q s u. same;
-  function_meets = λ k a r q s u. same;
+  function_row = λ k a r q s u. alone one-reading;
+  function_ground = λ k a r q s u e f. one-grounded r q (same e f);
+  function_meets = λ k a r q s u e f. one-meeting r q (same e f);
   read_functions = λ k a r q s u. alone one-reading;
   refresh_functions = λ k a r q s u. alone one-refreshed;
 }

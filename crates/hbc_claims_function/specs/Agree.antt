@@ -2,13 +2,8 @@
 use Prim.Native.Nat.{ℕ, _≤_, _<_}
 use mathlib.Core.Path.{_≡_}
 use mathlib.Core.List.{List}
-use lib.ListN.{length, getD}
+use lib.ListN.{getD}
 
 -- a and b have the same bytes from lo up to hi
 pub record Agree (a b : List ℕ) (lo hi : ℕ) : Type 0 where
   pub at : (j : ℕ) → lo ≤ j → j < hi → getD a j 0 ≡ getD b j 0
-
--- a and b are as long, and the same outside the bytes from low up to high
-pub record Same (a b : List ℕ) (low high : ℕ) : Type 0 where
-  pub long : length a ≡ length b
-  pub out : (j : ℕ) → (low ≤ j → j < high → ⊥) → getD a j 0 ≡ getD b j 0

@@ -1,6 +1,5 @@
 pub mod Agree
 pub mod Rows
-pub mod Meeting
 pub mod Accepted
 pub mod Tables
 pub mod Refreshed

@@ -1,72 +1,41 @@
--- docs/FORMAT.md, section 10.1: the records that the worked cases speak of.
+-- docs/FORMAT.md, section 10.1: the records that the worked cases speak of, of function 0, their fields in the order of section 3.1.
 use Prim.Native.Nat.{ℕ}
 use Rattle.hbc_function_record.specs.declared.Legacy.{Legacy}
 use Rattle.hbc_function_record.specs.declared.Modern.{Modern}
 
-abbrev pub legacy : ℕ → ℕ → Legacy
-legacy info off = record {
+-- offset, param_count, size, name, info_offset, frame_size, environment_size, read, write, flags
+abbrev pub legacy : ℕ → ℕ → ℕ → ℕ → ℕ → ℕ → ℕ → ℕ → ℕ → ℕ → Legacy
+legacy offset params size name info frame environment read write flags = record {
   id = 0;
-  offset = off;
-  «param_count» = 2;
-  size = 10;
-  name = 3;
+  offset = offset;
+  «param_count» = params;
+  size = size;
+  name = name;
   «info_offset» = info;
-  «frame_size» = 5;
-  «environment_size» = 1;
-  read = 2;
-  write = 3;
-  flags = 4;
-}
-
-abbrev pub modern : ℕ → ℕ → Modern
-modern n off = record {
-  id = 0;
-  offset = off;
-  «param_count» = 2;
-  «loop_depth» = 1;
-  size = 10;
-  name = n;
-  «number_reg» = 4;
-  «non_ptr_reg» = 5;
-  «frame_size» = 6;
-  «read_cache» = 7;
-  «write_cache» = 8;
-  «new_object» = 1;
-  «private_name» = 0;
-  flags = 4;
-  «info_offset» = 0;
-}
-
-abbrev pub legacyZeros : ℕ → Legacy
-legacyZeros flags = record {
-  id = 0;
-  offset = 0;
-  «param_count» = 0;
-  size = 0;
-  name = 0;
-  «info_offset» = 0;
-  «frame_size» = 0;
-  «environment_size» = 0;
-  read = 0;
-  write = 0;
+  «frame_size» = frame;
+  «environment_size» = environment;
+  read = read;
+  write = write;
   flags = flags;
 }
 
-abbrev pub modernZeros : ℕ → ℕ → Modern
-modernZeros flags info = record {
+-- offset, param_count, loop_depth, size, name, number_reg, non_ptr_reg, frame_size, read_cache, write_cache, new_object, private_name, flags;
+-- and info_offset, which an inline header has not
+abbrev pub modern : ℕ → ℕ → ℕ → ℕ → ℕ → ℕ → ℕ → ℕ → ℕ → ℕ → ℕ → ℕ → ℕ → ℕ → Modern
+modern offset params loop size name number non-ptr frame read write new private flags info = record {
   id = 0;
-  offset = 0;
-  «param_count» = 0;
-  «loop_depth» = 0;
-  size = 0;
-  name = 0;
-  «number_reg» = 0;
-  «non_ptr_reg» = 0;
-  «frame_size» = 0;
-  «read_cache» = 0;
-  «write_cache» = 0;
-  «new_object» = 0;
-  «private_name» = 0;
+  offset = offset;
+  «param_count» = params;
+  «loop_depth» = loop;
+  size = size;
+  name = name;
+  «number_reg» = number;
+  «non_ptr_reg» = non-ptr;
+  «frame_size» = frame;
+  «read_cache» = read;
+  «write_cache» = write;
+  «new_object» = new;
+  «private_name» = private;
   flags = flags;
   «info_offset» = info;
 }

@@ -13,7 +13,7 @@ use Rattle.hbc_function_header.proofs.function_ground.Reads as of-function-grou
 use Rattle.hbc_function_header.proofs.function_meets.Reads as of-function-meets
 use Rattle.hbc_function.proofs.read_functions.Reads as of-read-functions
 use Rattle.hbc_function.proofs.refresh_functions.Reads as of-refresh-functions
-use Rattle.hbc_claims_law.specs.Law.{One, Words, Both}
+use Rattle.hbc_claims_law.specs.Law.{One, Both}
 
 -- the calls by name
 pub record Unique : Type 0 where
@@ -25,7 +25,7 @@ pub record Unique : Type 0 where
   pub row_words : One of-row-words.Learnt
   pub read_function : One of-read-function.Learnt
   pub check_function : One of-check-function.Learnt
-  pub function_row : Words of-function-row.Learnt (λ s. now (s .1 .1 .1 .1 .0))
+  pub function_row : Both of-function-row.Learnt (λ s. now (s .1 .1 .1 .1 .0))
   pub function_ground : One of-function-ground.Learnt
   pub function_meets : One of-function-meets.Learnt
   pub read_functions : Both of-read-functions.Learnt (λ s. now (s .1 .1 .1 .1 .0))

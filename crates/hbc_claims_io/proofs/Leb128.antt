@@ -12,7 +12,7 @@ use Rattle.hbc_io.specs.Outcome.{twos}
 use Rattle.hbc_io_leb.specs.Leb.{groups, dwarfUnsigned, dwarfSigned, unsignedOf, signedOf, low64}
 use Rattle.hbc_io_leb.proofs.Lebs.{groups-of-lt}
 use Rattle.hbc_io_leb.proofs.Slebs.{by-le, kept}
-use Rattle.hbc_claims_io.specs.Leb128.{Fits64}
+use Rattle.hbc_claims_law.specs.Terms.{Fits64}
 
 -- ---- unsigned
 

@@ -11,11 +11,13 @@ use Rattle.hbc_io.specs.declared.Refusal.{Refusal}
 use Rattle.hbc_io.specs.declared.Span.{Span}
 use Rattle.hbc_io.proofs.Reading.{not-both, valued-refused}
 use Rattle.hbc_io_leb.specs.Leb.{lebBytes, going}
-use Rattle.hbc_io_leb.specs.Answers.{ulebOf}
+use Rattle.hbc_io_leb.specs.Answers.{ulebOf, slebOf}
+use Rattle.hbc_io_leb.specs.Signed.{slebAt}
+use Rattle.hbc_io_leb.specs.declared.Sleb.{Sleb}
 use Rattle.hbc_io_strings.specs.Text.{zeroEnded, before0, prefixed}
 use Rattle.hbc_io_strings.proofs.Texts.{prefix-got, prefix-refused}
 use Rattle.hbc_claims_law.proofs.Tests.{either}
-use Rattle.hbc_claims_io.specs.Left.{stays, lebLeft, textLeft, PrefixLeft, no-length, no-bytes}
+use Rattle.hbc_claims_law.specs.Terms.{stays, lebLeft, textLeft, PrefixLeft, no-length, no-bytes}
 
 module _ (s : List ℕ) (c : Cursor) {k : Refusal} {n : Cursor} where
   -- where it is left goes by the number
@@ -65,6 +67,11 @@ module _ (s : List ℕ) (c : Cursor) {k : Refusal} {n : Cursor} where
       at-start (lebLeft s c) _ refl refl (valued-refused f (lebBytes s c) k n (sym e)) (λ p.
       either (leb 10 (going (drop (c .at) s))) p (by-number (lebLeft s c) 5 _ refl) (λ q.
       either (leb (length s) (c .at + going (drop (c .at) s))) q (by-number (lebLeft s c) 3 _ refl) (λ v. absurd (not-both refl v))))
+
+  -- and as its 64 bits
+  pub bits-left : {A : Type 0} (f : Sleb → A) → refused k n ≡ valued f (slebAt s c) → n ≡ lebLeft s c k
+  unfolding slebAt
+  bits-left f e = leb-left slebOf (sym (valued-refused f (valued slebOf (lebBytes s c)) k n (sym e)))
 
   -- a string ended by a zero
   pub zero-left : refused k n ≡ zeroEnded s c → n ≡ textLeft s c k

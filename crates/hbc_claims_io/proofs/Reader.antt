@@ -26,10 +26,10 @@ use Rattle.hbc_reader.proofs.ByteReader.read_u32 as of-read-u32
 use Rattle.hbc_reader.proofs.ByteReader.read_uleb128 as of-read-uleb128
 use Rattle.hbc_reader.proofs.ByteReader.read_bytes as of-read-bytes
 use Rattle.hbc_reader.proofs.ByteReader.part as of-part
-use Rattle.hbc_io.proofs.Alone.{oneU32, oneSpan, oneMoved}
+use Rattle.hbc_io.proofs.Alone.{oneU32, oneSpan, oneMoved, onePart}
 use Rattle.hbc_io_leb.proofs.Alone.{oneUleb}
 use Rattle.hbc_claims_law.proofs.Law.{same}
-use Rattle.hbc_claims_io.specs.Reader.{New, Position, Remaining, Seek, U32, Uleb128, Bytes, Part, Unique}
+use Rattle.hbc_claims_io.specs.Reader.{Lent, New, Position, Remaining, Seek, U32, Uleb128, Bytes, Part, Unique}
 
 -- ---- each clause is its fact
 
@@ -37,28 +37,28 @@ module _ {M : Type 1} (𝓤 : URA M) (H : Heap 𝓤) (A : Atoms 𝓤) (mem : Mem
   pub new-clause : (κs : Lfts 1) (a : RefT (List ℕ)) (b : Both (RefT (List ℕ)) (RefT (List ℕ))) (r : ByteReader) → of-new.ensures-1 𝓤 H κs A mem run a b r ≡ fact 𝓤 (New (b .entry) r)
   new-clause κs a b r = refl
 
-  pub position-clause : (κs : Lfts 2) (a : RefT ByteReader) (b : Both (RefT ByteReader) (RefT ByteReader)) (r : ℕ) → of-position.ensures-1 𝓤 H κs A mem run a b r ≡ fact 𝓤 (Position (now (b .entry)) r)
+  pub position-clause : (κs : Lfts 2) (a : RefT ByteReader) (b : Lent) (r : ℕ) → of-position.ensures-1 𝓤 H κs A mem run a b r ≡ fact 𝓤 (Position (now (b .entry)) r)
   position-clause κs a b r = refl
 
-  pub remaining-clause : (κs : Lfts 2) (a : RefT ByteReader) (b : Both (RefT ByteReader) (RefT ByteReader)) (r : ℕ) → of-remaining.ensures-1 𝓤 H κs A mem run a b r ≡ fact 𝓤 (Remaining (now (b .entry)) r)
+  pub remaining-clause : (κs : Lfts 2) (a : RefT ByteReader) (b : Lent) (r : ℕ) → of-remaining.ensures-1 𝓤 H κs A mem run a b r ≡ fact 𝓤 (Remaining (now (b .entry)) r)
   remaining-clause κs a b r = refl
 
-  pub seek-clause : (κs : Lfts 2) (a : RefT ByteReader) (to : ℕ) (b : Both (RefT ByteReader) (RefT ByteReader)) (t : Both ℕ ℕ) (r : Moved)
+  pub seek-clause : (κs : Lfts 2) (a : RefT ByteReader) (to : ℕ) (b : Lent) (t : Both ℕ ℕ) (r : Moved)
       → of-seek.ensures-1 𝓤 H κs A mem run a to b t r ≡ fact 𝓤 (Seek to (now (b .entry)) r (now (b .exit)))
   seek-clause κs a to b t r = refl
 
-  pub read-u32-clause : (κs : Lfts 2) (a : RefT ByteReader) (b : Both (RefT ByteReader) (RefT ByteReader)) (r : ReadU32) → of-read-u32.ensures-1 𝓤 H κs A mem run a b r ≡ fact 𝓤 (U32 (now (b .entry)) r (now (b .exit)))
+  pub read-u32-clause : (κs : Lfts 2) (a : RefT ByteReader) (b : Lent) (r : ReadU32) → of-read-u32.ensures-1 𝓤 H κs A mem run a b r ≡ fact 𝓤 (U32 (now (b .entry)) r (now (b .exit)))
   read-u32-clause κs a b r = refl
 
-  pub read-uleb128-clause : (κs : Lfts 2) (a : RefT ByteReader) (b : Both (RefT ByteReader) (RefT ByteReader)) (r : ReadUleb)
+  pub read-uleb128-clause : (κs : Lfts 2) (a : RefT ByteReader) (b : Lent) (r : ReadUleb)
       → of-read-uleb128.ensures-1 𝓤 H κs A mem run a b r ≡ fact 𝓤 (Uleb128 (now (b .entry)) r (now (b .exit)))
   read-uleb128-clause κs a b r = refl
 
-  pub read-bytes-clause : (κs : Lfts 2) (a : RefT ByteReader) (n : ℕ) (b : Both (RefT ByteReader) (RefT ByteReader)) (t : Both ℕ ℕ) (r : ReadSpan)
+  pub read-bytes-clause : (κs : Lfts 2) (a : RefT ByteReader) (n : ℕ) (b : Lent) (t : Both ℕ ℕ) (r : ReadSpan)
       → of-read-bytes.ensures-1 𝓤 H κs A mem run a n b t r ≡ fact 𝓤 (Bytes n (now (b .entry)) r (now (b .exit)))
   read-bytes-clause κs a n b t r = refl
 
-  pub part-clause : (κs : Lfts 2) (a : RefT ByteReader) (p : Span) (b : Both (RefT ByteReader) (RefT ByteReader)) (t : Both Span Span) (r : RefT (List ℕ)) → of-part.ensures-1 𝓤 H κs A mem run a p b t r ≡ fact 𝓤 (Part p (now (b .entry)) r)
+  pub part-clause : (κs : Lfts 2) (a : RefT ByteReader) (p : Span) (b : Lent) (t : Both Span Span) (r : RefT (List ℕ)) → of-part.ensures-1 𝓤 H κs A mem run a p b t r ≡ fact 𝓤 (Part p (now (b .entry)) r)
   part-clause κs a p b t r = refl
 
 -- ---- each fact leaves one outcome
@@ -72,6 +72,6 @@ unique = record {
   read_u32 = λ d r q e f g h. (oneU32 r q (same (g .says) (h .says)), same (g .leaves) (h .leaves));
   read_uleb128 = λ d r q e f g h. (oneUleb r q (same (g .says) (h .says)), same (g .leaves) (h .leaves));
   read_bytes = λ n d r q e f g h. (oneSpan r q (same (g .says) (h .says)), same (g .leaves) (h .leaves));
-  part = λ p d r q. same;
+  part = λ p d r q. onePart;
   read_u32_at = λ k a r q s u e f. oneU32 r q (same e f);
 }

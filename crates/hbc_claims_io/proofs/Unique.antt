@@ -1,5 +1,5 @@
 -- Each call leaves one outcome: its promise fixes the answer and every lent word.
-use Rattle.hbc_io.proofs.Alone.{oneU8, oneU16, oneU32, oneU64, oneI8, oneI32, oneF64, oneSpan, oneMoved}
+use Rattle.hbc_io.proofs.Alone.{oneU8, oneU16, oneU32, oneU64, oneI8, oneI32, oneF64, oneSpan, oneMoved, onePart}
 use Rattle.hbc_io_leb.proofs.Alone.{oneUleb, oneSleb, oneHeld}
 use Rattle.hbc_claims_law.proofs.Law.{same}
 use Rattle.hbc_claims_io.specs.Unique.{Unique}
@@ -21,7 +21,7 @@ unique = record {
   seek = λ k a r q s u e f. oneMoved r q (same e f);
   align = λ k a r q s u e f. oneMoved r q (same e f);
   read_bytes = λ k a r q s u e f. oneSpan r q (same e f);
-  part = λ k a r q s u. same;
+  part = λ k a r q s u. onePart;
   float_of = λ k a r q s u. same;
   signed32 = λ k a r q s u. same;
   signed8 = λ k a r q s u. same;

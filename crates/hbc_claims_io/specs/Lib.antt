@@ -1,4 +1,2 @@
-pub mod Leb128
-pub mod Left
-pub mod Reader
 pub mod Unique
+pub mod Reader

@@ -1,13 +1,13 @@
 -- docs/FORMAT.md, section 2.6: of a reader's calls too, two outcomes that both meet a call's contract are one: the answer, and the reader as it is left.
 -- A method over a reader is proved by hand, and the checker makes no plain reading of its contract: each contract is set out here as one fact,
--- and proofs/Reader shows that the contract's clause is that fact and nothing else.
+-- and the page of hbc_claims says that the contract's clause is that fact and nothing else (`reader`).
 use mathlib.Core.Path.{_≡_}
 use mathlib.Core.List.{List}
 use Prim.Native.Nat.{ℕ}
-use contract.Monad.{fact}
-use denote.Ref.{RefT, now}
+use denote.Ref.{RefT, ptr, now}
+use denote.Triple.Both.{Both}
 use Rattle.hbc_io.specs.Outcome.{left, valued}
-use Rattle.hbc_io.specs.Plain.{plainAt, seekTo, bytesAt, partOf}
+use Rattle.hbc_io.specs.Plain.{plainAt, seekTo, bytesAt, IsPart}
 use Rattle.hbc_io.specs.Answers.{saysU32, saysMoved, saysSpan}
 use Rattle.hbc_io.specs.declared.Moved.{Moved}
 use Rattle.hbc_io.specs.declared.ReadU32.{ReadU32}
@@ -20,6 +20,10 @@ use Rattle.hbc_reader.specs.Reader.{bytesOf, cursorOf, fresh, Reads}
 use Rattle.hbc_reader.specs.declared.ByteReader.{ByteReader}
 use Rattle.hbc_reader.proofs.read_u32_at.Reads as of-read-u32-at
 use Rattle.hbc_claims_law.specs.Law.{One}
+
+-- a reader that is lent to a call: as it is given, and as it is left
+abbrev pub Lent : Type 0
+Lent = Both (RefT ByteReader) (RefT ByteReader)
 
 -- ---- the facts
 
@@ -46,7 +50,7 @@ abbrev pub Bytes : ℕ → ByteReader → ReadSpan → ByteReader → Type 0
 Bytes n d r e = Reads (bytesAt n) d (saysSpan r) e
 
 abbrev pub Part : Span → ByteReader → RefT (List ℕ) → Type 0
-Part p d r = now r ≡ partOf (bytesOf d) p
+Part p d = IsPart (d .«data») p
 
 -- ---- each fact leaves one outcome
 
@@ -62,5 +66,5 @@ pub record Unique : Type 0 where
   pub read_u32 : OneLeft U32
   pub read_uleb128 : OneLeft Uleb128
   pub read_bytes : (n : ℕ) → OneLeft (Bytes n)
-  pub part : (p : Span) (d : ByteReader) (r q : RefT (List ℕ)) → Part p d r → Part p d q → now r ≡ now q
+  pub part : (p : Span) (d : ByteReader) (r q : RefT (List ℕ)) → Part p d r → Part p d q → (now r ≡ now q) × (ptr r ≡ ptr q)
   pub read_u32_at : One of-read-u32-at.Learnt

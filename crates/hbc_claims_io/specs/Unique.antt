@@ -1,5 +1,4 @@
 -- docs/FORMAT.md, section 1.6: each public call's contract, as the checker has it, leaves one answer: two outcomes that both meet it are equal.
-use denote.Ref.{now}
 use Rattle.hbc_bits.proofs.bits.Reads as of-bits
 use Rattle.hbc_io.proofs.first.Reads as of-first
 use Rattle.hbc_io.proofs.position.Reads as of-position
@@ -29,7 +28,7 @@ use Rattle.hbc_io_leb.proofs.read_sleb128.Reads as of-read-sleb128
 use Rattle.hbc_io_leb.proofs.signed64.Reads as of-signed64
 use Rattle.hbc_io_strings.proofs.read_cstring.Reads as of-read-cstring
 use Rattle.hbc_io_strings.proofs.read_length_prefixed_string.Reads as of-read-length-prefixed-string
-use Rattle.hbc_claims_law.specs.Law.{One, Seen}
+use Rattle.hbc_claims_law.specs.Law.{One, OnePart}
 
 -- the calls by name
 pub record Unique : Type 0 where
@@ -48,7 +47,7 @@ pub record Unique : Type 0 where
   pub seek : One of-seek.Learnt
   pub align : One of-align.Learnt
   pub read_bytes : One of-read-bytes.Learnt
-  pub part : Seen of-part.Learnt (λ r. now r)
+  pub part : OnePart of-part.Learnt
   pub float_of : One of-float-of.Learnt
   pub signed32 : One of-signed32.Learnt
   pub signed8 : One of-signed8.Learnt

@@ -2,6 +2,7 @@
 -- the checker's own, of the lifetimes K, the arguments A, the answer R, and all parameters E as the call leaves them.
 use mathlib.Core.Path.{_≡_}
 use mathlib.Core.List.{List, [], _∷_}
+use denote.Ref.{RefT, ptr, now}
 
 -- one value for whatever f takes of the answer and of what is left
 abbrev pub Part : {K A R E : Type 0} → (K → A → R → E → Type 0) → {T : Type 0} → (R → E → T) → Type 0
@@ -11,9 +12,9 @@ Part {K} {A} {R} {E} L f = (k : K) (a : A) (r q : R) (s u : E) → L k a r s →
 abbrev pub One : {K A R E : Type 0} → (K → A → R → E → Type 0) → Type 0
 One L = Part L (λ r s. r)
 
--- one answer, seen through f: a part that is handed back, by its bytes
-abbrev pub Seen : {K A R E : Type 0} → (K → A → R → E → Type 0) → {T : Type 0} → (R → T) → Type 0
-Seen L f = Part L (λ r s. f r)
+-- one part of a slice that is handed back: its bytes, and where in memory they stand
+abbrev pub OnePart : {K A X E : Type 0} → (K → A → RefT X → E → Type 0) → Type 0
+OnePart {K} {A} {X} {E} L = (k : K) (a : A) (r q : RefT X) (s u : E) → L k a r s → L k a q u → (now r ≡ now q) × (ptr r ≡ ptr q)
 
 -- one value for the words that were lent at a place
 abbrev pub Words : {K A R E : Type 0} → (K → A → R → E → Type 0) → {W : Type 0} → (E → W) → Type 0

@@ -1,12 +1,15 @@
 -- Which rows the handlers' reader lists: those of the functions whose handlers are shown, each at its own place, and nothing else is written.
 use Prim.Native.Nat.{ℕ, zero, suc, _+_, _-_, _*_, _≤_, _<_}
-use mathlib.Core.Path.{_≡_, refl, _∙_}
+use mathlib.Core.Path.{_≡_, refl, sym, _∙_}
 use mathlib.Core.List.{List}
 use mathlib.Core.Bool.{Bool, true, false}
 use native.Mathlib.Omega.{arith}
 use lib.ListN.{length, getD}
 use lib.Dec.{ltb, eqb}
 use borrow.Author.Tests.{eqb-true, eqb-false, ltb-true, ltb-false}
+use Rattle.hbc_io.specs.Answer.{gives, refuses}
+use Rattle.hbc_io.specs.declared.Refusal.{Refusal}
+use Rattle.hbc_io.proofs.Exits.{reached}
 use Rattle.hbc_rows.specs.Rows.{entryAt, rowAt, rows, putRows}
 use Rattle.hbc_rows.proofs.RowsAt as at
 use Rattle.hbc_function_record.specs.Row.{legacyWords, modernWords}
@@ -14,9 +17,11 @@ use Rattle.hbc_parsing_handlers.specs.declared.Table.{Table}
 use Rattle.hbc_parsing_handlers.specs.declared.Why.{Why}
 use Rattle.hbc_parsing_handlers.specs.declared.Why.the-variants as w
 use Rattle.hbc_parsing_handlers.specs.Why.{why, shownBy, shown}
-use Rattle.hbc_parsing_handlers.specs.Handlers.{handlerWidth, total, handlerRow, putHandlers}
+use Rattle.hbc_parsing_handlers.specs.declared.Listed.the-variants as l
+use Rattle.hbc_parsing_handlers.specs.Handlers.{handlerWidth, total, handlerRow, putHandlers, handlersAnswer, ReadHandlers}
 use Rattle.hbc_parsing_handlers.proofs.Laws.{good, row-length, row-short, handlers-length}
-use Rattle.hbc_claims_parsing.specs.HandlerRows.{HeaderWords, Whose}
+use Rattle.hbc_claims_law.specs.Terms.{Behind, Whose}
+use Rattle.hbc_claims_parsing.specs.HandlerRows.{HeaderWords}
 
 pub header-words : HeaderWords
 unfolding legacyWords modernWords entryAt
@@ -125,3 +130,44 @@ module _ (s functions : List ℕ) where
         let u = total-up n i h in
         at.row-is handlerWidth (putHandlers s functions n t) (total s functions i + j) (ofFunction i j) (omega arith) (row-length s i (shown s functions i .place) j)
         (λ c k. word-is n i j c l h o k)
+
+-- ---- from the call's promise
+
+never : {r : Refusal} {n : ℕ} → refuses r ≡ gives n → ⊥
+never e = let z : _≡_ {A = ℕ} 0 1 = cc in omega arith
+
+record Accepted (s functions : List ℕ) (count room n : ℕ) : Type 0 where
+  all : n ≡ total s functions count
+  holds : total s functions count ≤ room
+
+accept : (s functions : List ℕ) (count room n : ℕ) → handlersAnswer s functions count room ≡ gives n → Accepted s functions count room n
+unfolding handlersAnswer
+accept s functions count room n e =
+    let p = reached _ _ _ _ never e in
+    let q = reached _ _ _ _ never (p .1) in
+    let r = reached _ _ _ _ never (q .1) in
+    record { all = cc (r .1); holds = r .0 }
+
+module _ (s functions : List ℕ) (count : ℕ) (t : List ℕ) (n : ℕ) (t′ : List ℕ) (v : ReadHandlers s functions count t (l.Rows n) t′) where
+  ok : Accepted s functions count (rows handlerWidth t) n
+  ok = accept s functions count (rows handlerWidth t) n (sym (v .says))
+
+  -- the answer is how many rows there are
+  pub listed-count : n ≡ total s functions count
+  listed-count = ok .all
+
+  -- each of them is a handler of one function below the count
+  pub listed-whose : (k : ℕ) → k < n → Whose s functions count k
+  listed-whose k h = whose s functions count k (omega (arith, ok .all))
+
+  -- handler j of function i is row total i + j
+  pub listed-row : (i j : ℕ) → i < count → j < shown s functions i .count
+      → rowAt handlerWidth t′ (total s functions i + j) ≡ handlerRow s i (shown s functions i .place) j
+  listed-row i j h k = rw (v .leaves) (row-is s functions t count i j (ok .holds) h k)
+
+  -- and every word behind the rows is as it was
+  pub listed-behind : Behind (n * handlerWidth) t t′
+  unfolding entryAt
+  listed-behind =
+      rw (v .leaves)
+      (record { rest = λ j h. rest-stays s functions t count j (omega (arith, ok .all)); long = handlers-length s functions count t })

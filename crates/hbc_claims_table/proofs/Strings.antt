@@ -5,14 +5,14 @@ use mathlib.Core.List.{List}
 use mathlib.Core.Bool.{Bool, true, false, cond}
 use native.Mathlib.Omega.{arith}
 use native.Mathlib.Nat.{zero-add}
-use lib.ListN.{length, take, drop}
+use lib.ListN.{length, getD, take, drop}
 use lib.Dec.{ltb, leb, eqb}
 use borrow.Author.Tests.{ltb-true, leb-true, eqb-false, lt-ltb, le-ltb}
 use Rattle.hbc_io.specs.Answer.{Answer, gives, refuses, refusedAt, andThen}
 use Rattle.hbc_io.specs.Lends.{choose}
 use Rattle.hbc_io.specs.Plain.{partOf, spanOf}
 use Rattle.hbc_io.proofs.Exits.{reached}
-use Rattle.hbc_rows.specs.Rows.{entryAt, rows, rowAt}
+use Rattle.hbc_rows.specs.Rows.{rows, rowAt}
 use Rattle.hbc_rows.proofs.RowsAt.{rows-length, rows-apart, row-put, row-fits}
 use Rattle.hbc_table_strings.specs.declared.row.StringRow.{StringRow}
 use Rattle.hbc_table_strings.specs.declared.Decoded.the-variants.{Rows}
@@ -21,6 +21,7 @@ use Rattle.hbc_table_strings.specs.Row.{stringWords, stringWidth, valid, invali
 use Rattle.hbc_table_strings.specs.Strings.{scan, lesser, decodeAnswer, wordsOf, decodedRows, DecodeStrings}
 use Rattle.hbc_table_strings.proofs.Alone.{not-given}
 use Rattle.hbc_table_bytes.specs.StringBytes.{spanAt, stringBytes}
+use Rattle.hbc_claims_law.specs.Terms.{Behind}
 use Rattle.hbc_claims_table.specs.Within.{Within}
 
 -- ---- how many
@@ -109,14 +110,15 @@ module _ (count : ℕ) (kinds small overflow storage before after : List ℕ) (n
       rw is (rw zero-add at (row-put stringWidth words 0 before n i (λ j. refl) h (rw zero-add l)))
 
   -- every word past the rows is as it was
-  pub decoded-rest : (y : ℕ) → n * stringWidth ≤ y → entryAt after y ≡ entryAt before y
-  unfolding entryAt
+  decoded-rest : (y : ℕ) → n * stringWidth ≤ y → getD after y 0 ≡ getD before y 0
   decoded-rest y h =
       let e : y / stringWidth * stringWidth + y % stringWidth ≡ y = omega arith in
       rw is (rw e at (rows-apart stringWidth words (λ j. omega arith) 0 before n (y / stringWidth) (y % stringWidth) (omega arith) (λ m l q. omega arith)))
 
+  pub decoded-behind : Behind (n * stringWidth) before after
+  decoded-behind = record { rest = decoded-rest; long = rw is (rows-length stringWidth words (λ j. omega arith) 0 before n) }
+
   -- and string_bytes then hands back the bytes that row i says, for a valid row and for an invalid one
   pub decoded-bytes : (i : ℕ) → i < n → stringBytes storage after i ≡ take (row i .bytes) (drop (row i .start) storage)
   decoded-bytes i h =
-      let l : length after ≡ length before = rw is (rows-length stringWidth words (λ j. omega arith) 0 before n) in
-      bytes-at storage after i (row i) (rw l (omega (arith, ok .room))) (decoded-row i h) (row-within kinds small overflow (length storage) i)
+      bytes-at storage after i (row i) (rw (decoded-behind .long) (omega (arith, ok .room))) (decoded-row i h) (row-within kinds small overflow (length storage) i)

@@ -14,9 +14,11 @@ use Rattle.hbc_io.specs.declared.Moved.the-variants.{To, Refused}
 use Rattle.hbc_io.proofs.Exits.{reached}
 use Rattle.hbc_io.proofs.Reading.{not-both}
 use Rattle.hbc_rows.specs.Rows.{entryAt}
+use Rattle.hbc_rows.proofs.Laws.{filled-length}
 use Rattle.hbc_rows.proofs.RowsAt.{filled-at, filled-past}
 use Rattle.hbc_table.specs.Table.{wordsFrom, wordsAt, ReadTable}
 use Rattle.hbc_claims_law.proofs.Tests.{either}
+use Rattle.hbc_claims_law.specs.Terms.{Behind}
 use Rattle.hbc_claims_table.specs.Left.{TableLeft}
 
 -- an accepted read of n words
@@ -51,8 +53,11 @@ module _ (width : ℕ) (s : List ℕ) (c : Cursor) (count : ℕ) (before after :
       rw (v .leaves) (filled-at (wordsFrom s (c .at)) before (width * count) i (omega (arith, g .room)) h)
 
   -- and every word past the entries is as it was
-  pub read-rest : (i : ℕ) → width * count ≤ i → entryAt after i ≡ entryAt before i
-  read-rest i h = rw (v .leaves) (filled-past (wordsFrom s (c .at)) before (width * count) i h)
+  pub read-behind : Behind (width * count) before after
+  unfolding entryAt
+  read-behind =
+      rw (v .leaves)
+      (record { rest = filled-past (wordsFrom s (c .at)) before (width * count); long = filled-length (wordsFrom s (c .at)) before (width * count) })
 
 -- a refused read leaves the cursor
 pub words-left : (bytes : ℕ) (s : List ℕ) (c : Cursor) (n words : ℕ) (r : Refusal) (stays : Cursor) → wordsAt bytes s c n words ≡ refused r stays → stays ≡ c

@@ -1,5 +1,5 @@
 -- Each call leaves one outcome: its promise fixes the answer and every lent word.
-use Rattle.hbc_io.proofs.Alone.{oneMoved}
+use Rattle.hbc_io.proofs.Alone.{oneMoved, onePart}
 use Rattle.hbc_io.proofs.Exits.{alone}
 use Rattle.hbc_table_strings.proofs.Alone.{oneDecoded}
 use Rattle.hbc_claims_law.proofs.Law.{same}
@@ -15,5 +15,5 @@ unique = record {
   read_pair_table = λ k a r q s u. alone oneMoved;
   decode_strings = λ k a r q s u. alone oneDecoded;
   string_span = λ k a r q s u. same;
-  string_bytes = λ k a r q s u. same;
+  string_bytes = λ k a r q s u. onePart;
 }

@@ -9,7 +9,7 @@ use Rattle.hbc_table.proofs.read_pair_table.Reads as of-read-pair-table
 use Rattle.hbc_table_strings.proofs.decode_strings.Reads as of-decode-strings
 use Rattle.hbc_table_bytes.proofs.string_span.Reads as of-string-span
 use Rattle.hbc_table_bytes.proofs.string_bytes.Reads as of-string-bytes
-use Rattle.hbc_claims_law.specs.Law.{One, Seen, Words, Both}
+use Rattle.hbc_claims_law.specs.Law.{One, OnePart, Words, Both}
 
 -- the calls by name
 pub record Unique : Type 0 where
@@ -21,5 +21,4 @@ pub record Unique : Type 0 where
   pub read_pair_table : Both of-read-pair-table.Learnt (λ s. now (s .1 .1 .1 .0))
   pub decode_strings : Both of-decode-strings.Learnt (λ s. now (s .1 .1 .1 .1 .1 .0))
   pub string_span : One of-string-span.Learnt
-  -- the bytes of the part
-  pub string_bytes : Seen of-string-bytes.Learnt (λ r. now r)
+  pub string_bytes : OnePart of-string-bytes.Learnt

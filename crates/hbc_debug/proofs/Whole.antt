@@ -1,20 +1,22 @@
 -- The two ends of the call on the bytes of the parts, each in the form of the promise.
 use mathlib.Core.Path.{_≡_, refl, sym, ap, _∙_}
-use mathlib.Core.Bool.{Bool, true, false}
+use mathlib.Core.Bool.{Bool, true, false, cond}
 use mathlib.Core.List.{List}
-use Prim.Native.Nat.{ℕ, _+_, _≤_}
-use borrow.Author.Tests.{le-ltb}
+use Prim.Native.Nat.{ℕ, _≤_}
+use borrow.Author.Tests.{leb-true}
+use native.Mathlib.Omega.{arith}
 use lib.ListN.{length}
 use lib.Seq.{sets}
-use Rattle.hbc_io.specs.Outcome.{refusalAt, cursorAt, limit}
+use lib.Dec.{leb}
+use Rattle.hbc_io.specs.Outcome.{refusalAt, cursorAt}
 use Rattle.hbc_io.specs.Answer.{gives, refuses}
 use Rattle.hbc_io.specs.declared.Refusal.{Refusal}
 use Rattle.hbc_io.proofs.Exits.{refused, given, take, leave}
 use Rattle.hbc_io_strings.specs.Text.{prefixed}
 use Rattle.hbc_rows.proofs.Untils.{until-most}
-use Rattle.hbc_debug_parts.specs.declared.InFile.{InFile}
-use Rattle.hbc_debug_strings.specs.Strings.{stringsOf, stringWords, stringTable}
-use Rattle.hbc_debug_scopes.specs.Scopes.{scopesOf, nameWords, CountScopes, WriteScopes}
+use Rattle.hbc_debug_strings.specs.Strings.{stringsOf, stringWords}
+use Rattle.hbc_debug_scopes.specs.Scopes.{scopesOf, nameWords}
+use Rattle.hbc_debug_scopes.specs.Private.{ScopesAre, RowsAre}
 use Rattle.hbc_debug_callees.specs.Callees.{calleesOf, calleeWords}
 use Rattle.hbc_debug.specs.Debug.{Tables, tables, Contents, stringCount, countsOf, roomIn, fits, withRows}
 use Rattle.hbc_debug.specs.Private.{ReadParts}
@@ -25,12 +27,29 @@ pub strings-most : (s : List ℕ) → length (stringsOf s) ≤ length s
 unfolding stringsOf
 strings-most s = until-most (prefixed s) (length s) (cursorAt 0)
 
-string-rows : (base : InFile) (s t : List ℕ) → base .0 + length s ≤ limit → stringTable base s t ≡ sets t 0 (stringWords base (stringsOf s))
-unfolding stringTable
-string-rows base s t h = rw (le-ltb limit (base .0 + length s) h)
+no-truth : _≡_ {A = Bool} false true → ⊥
+no-truth e = let z : _≡_ {A = ℕ} 0 1 = cc in omega arith
+
+-- where all fit, each does
+pub record AllFit (need room : Counts) : Type 0 where
+  pub strings : need .strings ≤ room .strings
+  pub scopes : need .scopes ≤ room .scopes
+  pub names : need .names ≤ room .names
+  pub callees : need .callees ≤ room .callees
+
+pub all-fit : (need room : Counts) {ok : Bool} → ok ≡ fits need room → ok ≡ true → AllFit need room
+unfolding fits
+all-fit need room e f = by (leb (need .strings) (room .strings)) refl (leb (need .scopes) (room .scopes)) refl (leb (need .names) (room .names)) refl (sym e ∙ f)
+  where
+    by : (x : Bool) → leb (need .strings) (room .strings) ≡ x → (y : Bool) → leb (need .scopes) (room .scopes) ≡ y → (z : Bool) → leb (need .names) (room .names) ≡ z
+        → cond x (cond y (cond z (leb (need .callees) (room .callees)) false) false) false ≡ true → AllFit need room
+    by true a true b true c d = record { strings = leb-true _ _ a; scopes = leb-true _ _ b; names = leb-true _ _ c; callees = leb-true _ _ d }
+    by true a true b false c d = absurd (no-truth d)
+    by true a false b z c d = absurd (no-truth d)
+    by false a y b z c d = absurd (no-truth d)
 
 module _ (b : Contents) (t : Tables) {n i j m : ℕ} {ok : Bool}
-    (en : n ≡ stringCount b) (es : CountScopes (b .scopes) i j) (em : m ≡ length (calleesOf n (b .callees)))
+    (en : n ≡ stringCount b) (es : ScopesAre (b .scopes) i j) (em : m ≡ length (calleesOf n (b .callees)))
     (eo : ok ≡ fits (record { strings = n; scopes = i; names = j; callees = m }) (roomIn t)) where
   counts-are : record { strings = n; scopes = i; names = j; callees = m } ≡ countsOf b
   unfolding countsOf
@@ -43,12 +62,12 @@ module _ (b : Contents) (t : Tables) {n i j m : ℕ} {ok : Bool}
   ok-is : fits (countsOf b) (roomIn t) ≡ ok
   ok-is = sym (eo ∙ ap (λ (k : Counts). fits k (roomIn t)) counts-are)
 
-  pub read-done : {strings scopes names callees : List ℕ} → ok ≡ true → b .base .0 + length (b .strings) ≤ limit
-      → strings ≡ stringTable (b .base) (b .strings) (t .strings) → WriteScopes (b .scopes) n (t .scopes) (t .names) scopes names
+  pub read-done : {strings scopes names callees : List ℕ} → ok ≡ true
+      → strings ≡ sets (t .strings) 0 (stringWords (b .base) (stringsOf (b .strings))) → RowsAre (b .scopes) n (t .scopes) (t .names) scopes names
       → callees ≡ sets (t .callees) 0 (calleeWords (calleesOf n (b .callees)))
       → ReadParts b t (debugged.Read (record { strings = n; scopes = i; names = j; callees = m })) (tables strings scopes names callees)
-  read-done {strings} {scopes} {names} {callees} e h f₁ f f₄ =
-      let g₁ = f₁ ∙ string-rows (b .base) (b .strings) (t .strings) h in
+  read-done {strings} {scopes} {names} {callees} e f₁ f f₄ =
+      let g₁ = f₁ in
       let g₂ = f .rows-are in
       let g₃ : names ≡ sets (t .names) 0 (nameWords (stringCount b) (scopesOf (b .scopes)))
       = f .names-are ∙ ap (λ (x : ℕ). sets (t .names) 0 (nameWords x (scopesOf (b .scopes)))) en in

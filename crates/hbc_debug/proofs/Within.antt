@@ -1,17 +1,18 @@
 -- The parts lie in the file; and the two ends of the call on the file.
 use mathlib.Core.Path.{_≡_, refl, sym, ap, _∙_}
 use mathlib.Core.Bool.{Bool, true, false, cond}
-use mathlib.Core.List.{List, []}
+use mathlib.Core.List.{List}
 use Prim.Native.Nat.{ℕ, _+_, _-_, _≤_}
 use native.Mathlib.Omega.{arith}
 use borrow.Author.Tests.{ltb-false}
 use lib.Dec.{ltb}
-use lib.ListN.{length, take, drop, length-take}
+use lib.ListN.{length, take, drop, length-take, length-drop}
 use Rattle.hbc_io.specs.Outcome.{limit}
-use Rattle.hbc_io.specs.Plain.{partOf, spanOf}
+use Rattle.hbc_io.specs.Plain.{partOf, spanOf, spanIn}
 use Rattle.hbc_io.specs.Answer.{Answer, gives, refuses, refusedAt, andThen}
 use Rattle.hbc_io.specs.Lends.{below, choose, written}
 use Rattle.hbc_io.specs.declared.Refusal.{Refusal}
+use Rattle.hbc_io.specs.declared.Span.{Span}
 use Rattle.hbc_io.proofs.Exits.{refused, reached}
 use Rattle.hbc_debug_parts.specs.Places.{inFile, inSection}
 use Rattle.hbc_debug_parts.specs.Parts.{headerSize, dataStart, dataEnd, scopesAt, calleesAt, stringsAt, noPart, noParts, partAt, partsIn, isEmpty}
@@ -88,12 +89,31 @@ found-within file offset p e = let a = reached _ _ _ _ never e in go (isEmpty (l
 pub part-short : (file : List ℕ) (start len m : ℕ) → start + len ≤ m → start + length (partOf file (spanOf start len)) ≤ m
 part-short file start len m h = go (ltb (length file) start) (ltb (length file - start) len)
   where
-    go : (a b : Bool) → start + length (cond a [] (cond b [] (take len (drop start file)))) ≤ m
+    spanned : Bool → Bool → Span
+    spanned a b = cond a (spanOf 0 0) (cond b (spanOf 0 0) (spanOf start len))
+
+    go : (a b : Bool) → start + length (take (spanned a b .len) (drop (spanned a b .start) file)) ≤ m
     go true b = omega arith
     go false true = omega arith
     go false false = let t = length-take len (drop start file) in omega arith
 
+-- and of any part: no more than the file has
+part-most : (file : List ℕ) (start len : ℕ) → length (partOf file (spanOf start len)) ≤ length file
+part-most file start len = go (spanIn file (spanOf start len))
+  where
+    go : (p : Span) → length (take (p .len) (drop (p .start) file)) ≤ length file
+    go p = let t = length-take (p .len) (drop (p .start) file) in let u = length-drop (p .start) file in omega arith
+
 module _ (file : List ℕ) (offset : ℕ) where
+  -- a file whose parts were found is short enough
+  pub part-fits : {f : PartsFound} {p : Parts} (q : Part) {s : List ℕ} → FindParts file offset f → f ≡ found.Found p → s ≡ partBytes file q → length s ≤ limit
+  unfolding partsOf
+  part-fits q d e u =
+      let t = ap length u in
+      let h = part-most file (q .start .0) (q .len) in
+      let l = reached _ _ _ _ never (sym d ∙ ap saysParts e) .0 in
+      omega arith
+
   pub base-fits : {f : PartsFound} {p : Parts} {s : List ℕ} → FindParts file offset f → f ≡ found.Found p → s ≡ partBytes file (p .strings)
       → p .strings .start .0 + length s ≤ limit
   base-fits {f} {p} d e u =

@@ -95,6 +95,7 @@ partsGiven (refuses r) = noParts
 abbrev pub contentsAt : List ℕ → ℕ → Contents
 contentsAt file offset = contentsIn file (partsGiven (partsOf file offset))
 
+-- what each case of an answer says: the four counts, or the refusal
 abbrev pub saysDebug : Debugged → Answer Counts
 saysDebug (debugged.Read k) = gives k
 saysDebug (debugged.Refused r) = refuses r

@@ -3,10 +3,17 @@
 ghost use mathlib.Core.Path.{_≡_};
 ghost use Prim.Native.Nat.{_+_, _≤_};
 ghost use lib.ListN.{length};
+ghost use lib.Seq.{sets};
 ghost use Rattle.hbc_io.specs.Outcome.{limit};
+ghost use Rattle.hbc_rows.specs.Rows.{rows};
+ghost use Rattle.hbc_debug_strings.specs.Strings.{stringsOf, stringWidth, stringWords};
+ghost use Rattle.hbc_debug_scopes.specs.Private.{ScopesAre, RowsAre};
+ghost use Rattle.hbc_debug_scopes.specs.Scopes.{scopeWidth};
+ghost use Rattle.hbc_debug_callees.specs.Callees.{calleesOf, calleeWidth, calleeWords};
 ghost use Rattle.hbc_debug.specs.Debug.{tables, contents, fits, ReadDebug};
 ghost use Rattle.hbc_debug.specs.Private.{ReadParts};
 use hbc_debug_callees::CALLEE_WORDS;
+use hbc_debug_callees::CalleesCounted;
 use hbc_debug_callees::count_callees;
 use hbc_debug_callees::write_callees;
 use hbc_debug_parts::InFile;
@@ -14,9 +21,12 @@ use hbc_debug_parts::PartsFound;
 use hbc_debug_parts::find_parts;
 use hbc_debug_parts::part_bytes;
 use hbc_debug_scopes::SCOPE_WORDS;
+use hbc_debug_scopes::ScopeCounts;
+use hbc_debug_scopes::ScopesCounted;
 use hbc_debug_scopes::count_scopes;
 use hbc_debug_scopes::write_scopes;
 use hbc_debug_strings::STRING_WORDS;
+use hbc_debug_strings::StringsCounted;
 use hbc_debug_strings::count_strings;
 use hbc_debug_strings::write_strings;
 use hbc_io::Refusal;
@@ -49,6 +59,63 @@ fn fits(need: Counts, room: Counts) -> bool
     false
 }
 
+// The counts of the parts of a file that was found short enough, so that none is refused.
+fn string_count(part: &[u8]) -> usize
+    requires { ⌜ length (now part) ≤ limit ⌝ }
+    ensures { λ r. ⌜ r ≡ length (stringsOf (now (part .entry))) ⌝ }
+{
+    match count_strings(part) {
+        StringsCounted::Counts(k) => k.strings,
+        StringsCounted::Refused(r) => 0,
+    }
+}
+
+fn scope_counts(part: &[u8]) -> ScopeCounts
+    requires { ⌜ length (now part) ≤ limit ⌝ }
+    ensures { λ r. ⌜ ScopesAre (now (part .entry)) (r .scopes) (r .names) ⌝ }
+{
+    match count_scopes(part) {
+        ScopesCounted::Counts(k) => k,
+        ScopesCounted::Refused(r) => ScopeCounts {
+            scopes: 0,
+            names: 0,
+        },
+    }
+}
+
+fn callee_count(part: &[u8], strings: u32) -> usize
+    requires { ⌜ length (now part) ≤ limit ⌝ }
+    ensures { λ r. ⌜ r ≡ length (calleesOf strings (now (part .entry))) ⌝ }
+{
+    match count_callees(part, strings) {
+        CalleesCounted::Counts(k) => k.callees,
+        CalleesCounted::Refused(r) => 0,
+    }
+}
+
+// The rows of the parts, for which there is room, so that none is refused.
+fn put_strings(part: &[u8], base: InFile, count: usize, table: &mut [u32])
+    requires { ⌜ (base .0 + length (now part) ≤ limit) × (count ≡ length (stringsOf (now part))) × (count ≤ rows stringWidth (now table)) ⌝ }
+    ensures { λ _. ⌜ now (table .exit) ≡ sets (now (table .entry)) 0 (stringWords base (stringsOf (now (part .entry)))) ⌝ }
+{
+    write_strings(part, base, count, table);
+}
+
+fn put_scopes(part: &[u8], strings: u32, counts: ScopeCounts, table: &mut [u32], names: &mut [u32])
+    requires { ⌜ (length (now part) ≤ limit) × ScopesAre (now part) (counts .scopes) (counts .names) ⌝ }
+    requires { ⌜ (counts .scopes ≤ rows scopeWidth (now table)) × (counts .names ≤ length (now names)) ⌝ }
+    ensures { λ _. ⌜ RowsAre (now (part .entry)) strings (now (table .entry)) (now (names .entry)) (now (table .exit)) (now (names .exit)) ⌝ }
+{
+    write_scopes(part, strings, counts, table, names);
+}
+
+fn put_callees(part: &[u8], strings: u32, count: usize, table: &mut [u32])
+    requires { ⌜ (length (now part) ≤ limit) × (count ≡ length (calleesOf strings (now part))) × (count ≤ rows calleeWidth (now table)) ⌝ }
+    ensures { λ _. ⌜ now (table .exit) ≡ sets (now (table .entry)) 0 (calleeWords (calleesOf strings (now (part .entry)))) ⌝ }
+{
+    write_callees(part, strings, count, table);
+}
+
 fn read_parts(
     string_part: &[u8],
     base: InFile,
@@ -59,20 +126,19 @@ fn read_parts(
     names: &mut [u32],
     callees: &mut [u32],
 ) -> Debugged
-    requires { ⌜ base .0 + length (now «string_part») ≤ limit ⌝ }
+    requires { ⌜ (base .0 + length (now «string_part») ≤ limit) × (length (now «scope_part») ≤ limit) × (length (now «callee_part») ≤ limit) ⌝ }
     ensures { λ r. ⌜ ReadParts (contents (now («string_part» .entry)) base (now («scope_part» .entry)) (now («callee_part» .entry)))
         (tables (now (strings .entry)) (now (scopes .entry)) (now (names .entry)) (now (callees .entry)))
         r (tables (now (strings .exit)) (now (scopes .exit)) (now (names .exit)) (now (callees .exit))) ⌝ }
 {
-    let string_count = count_strings(string_part);
-    let n = string_count.strings;
-    let scope_counts = count_scopes(scope_part);
-    let callee_count = count_callees(callee_part, n as u32);
+    let n = string_count(string_part);
+    let found = scope_counts(scope_part);
+    let k = callee_count(callee_part, n as u32);
     let need = Counts {
         strings: n,
-        scopes: scope_counts.scopes,
-        names: scope_counts.names,
-        callees: callee_count.callees,
+        scopes: found.scopes,
+        names: found.names,
+        callees: k,
     };
     let room = Counts {
         strings: strings.len() / STRING_WORDS,
@@ -81,9 +147,9 @@ fn read_parts(
         callees: callees.len() / CALLEE_WORDS,
     };
     if fits(need, room) {
-        write_strings(string_part, base, strings);
-        write_scopes(scope_part, n as u32, scopes, names);
-        write_callees(callee_part, n as u32, callees);
+        put_strings(string_part, base, n, strings);
+        put_scopes(scope_part, n as u32, found, scopes, names);
+        put_callees(callee_part, n as u32, k, callees);
         return Debugged::Read(need);
     }
     Debugged::Refused(refuse(4, 0))

@@ -5,8 +5,9 @@ use mathlib.Core.List.{List}
 use mathlib.Core.Bool.{Bool, true, cond}
 use lib.ListN.{length}
 use lib.Dec.{ltb, leb, eqb}
+use denote.Ref.{RefT}
 use Rattle.hbc_io.specs.Outcome.{limit}
-use Rattle.hbc_io.specs.Plain.{wordAt, partOf, spanOf}
+use Rattle.hbc_io.specs.Plain.{wordAt, partOf, spanOf, IsPart}
 use Rattle.hbc_io.specs.Answer.{Answer, gives, refuses, refusedAt}
 use Rattle.hbc_io.specs.Lends.{below, choose}
 use Rattle.hbc_debug_parts.specs.Places.{inFile, inSection}
@@ -23,24 +24,21 @@ use Rattle.hbc_debug_parts.specs.declared.PartsFound.the-variants as fou
 abbrev pub headerSize : ℕ
 headerSize = 28
 
--- the u32 at a place of the section
-unfoldable pub headerWord : List ℕ → InFile → InSection → ℕ
-headerWord file section at = wordAt 4 file (inFile section at .0)
+-- the header's word k, from 0: the u32 at byte 4 k of the section
+unfoldable pub headerWord : List ℕ → InFile → ℕ → ℕ
+headerWord file section k = wordAt 4 file (inFile section (record { 0 = 4 * k }) .0)
 
-abbrev pub headerField : List ℕ → InFile → ℕ → ℕ
-headerField file section k = headerWord file section (record { 0 = k })
-
--- seven u32, in the order of docs/FORMAT.md, section 7.2
+-- the seven words in their order
 unfoldable pub headerAt : List ℕ → InFile → Header
 headerAt file section =
     record {
-      «filename_count» = headerField file section 0;
-      «filename_storage_size» = headerField file section 4;
-      «file_region_count» = headerField file section 8;
-      «scope_desc_offset» = headerField file section 12;
-      «textified_callee_offset» = headerField file section 16;
-      «string_table_offset» = headerField file section 20;
-      «debug_data_size» = headerField file section 24;
+      «filename_count» = headerWord file section 0;
+      «filename_storage_size» = headerWord file section 1;
+      «file_region_count» = headerWord file section 2;
+      «scope_desc_offset» = headerWord file section 3;
+      «textified_callee_offset» = headerWord file section 4;
+      «string_table_offset» = headerWord file section 5;
+      «debug_data_size» = headerWord file section 6;
     }
 
 -- data start: 28 + 8 × filenames + storage + 12 × regions
@@ -99,6 +97,7 @@ partsOf file offset =
     (below (length file - offset) headerSize (refusedAt 3 0)
     (gives (partsIn (length file - offset) (record { 0 = offset }) (headerAt file (record { 0 = offset }))))))
 
+-- what each case of an answer says: the three parts, or the refusal
 abbrev pub saysParts : PartsFound → Answer Parts
 saysParts (found.Found p) = gives p
 saysParts (found.Refused r) = refuses r
@@ -110,3 +109,7 @@ FindParts file offset r = saysParts r ≡ partsOf file offset
 -- the bytes of a part
 abbrev pub partBytes : List ℕ → Part → List ℕ
 partBytes file p = partOf file (spanOf (p .start .0) (p .len))
+
+-- the promise: that part of the file itself
+abbrev pub PartBytes : RefT (List ℕ) → Part → RefT (List ℕ) → Type 0
+PartBytes file p = IsPart file (spanOf (p .start .0) (p .len))

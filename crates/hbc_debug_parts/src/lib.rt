@@ -1,9 +1,9 @@
 // Where the debug section is, and its three parts. Offsets from the file, from the section and from the debug data are three types.
 ghost use mathlib.Core.Path.{_≡_};
-ghost use Prim.Native.Nat.{_+_, _^_, _≤_, _<_};
+ghost use Prim.Native.Nat.{_+_, _*_, _^_, _≤_, _<_};
 ghost use Rattle.hbc_io.specs.Outcome.{limit};
 ghost use Rattle.hbc_debug_parts.specs.Places.{inFile, inSection};
-ghost use Rattle.hbc_debug_parts.specs.Parts.{headerWord, headerAt, dataStart, noPart, noParts, partAt, partsIn, isEmpty, FindParts, partBytes};
+ghost use Rattle.hbc_debug_parts.specs.Parts.{headerWord, headerAt, dataStart, noPart, noParts, partAt, partsIn, isEmpty, FindParts, PartBytes};
 use hbc_io::LIMIT;
 use hbc_io::Refusal;
 use hbc_io::Span;
@@ -43,6 +43,12 @@ pub enum PartsFound {
     Refused(Refusal),
 }
 
+// The answer of a call that writes the rows of a list.
+pub enum Written {
+    Rows,
+    Refused(Refusal),
+}
+
 // The seven words of the header.
 pub struct Header {
     pub filename_count: u32,
@@ -68,11 +74,12 @@ fn data_to_section(blob: InSection, at: InData) -> InSection
     InSection(blob.0 + at.0)
 }
 
-// The word at a place of the header.
-fn word_at(file: &[u8], section: InFile, at: InSection) -> u32
-    requires { ⌜ section .0 + at .0 < 2 ^ 64 ⌝ }
-    ensures { λ r. ⌜ r ≡ headerWord (now (file .entry)) section at ⌝ }
+// A word of the header, by its number.
+fn word_at(file: &[u8], section: InFile, k: usize) -> u32
+    requires { ⌜ section .0 + 4 * k < 2 ^ 64 ⌝ }
+    ensures { λ r. ⌜ r ≡ headerWord (now (file .entry)) section k ⌝ }
 {
+    let at = InSection(4 * k);
     let place = section_to_file(section, at);
     u32_at(file, place.0)
 }
@@ -82,13 +89,13 @@ fn read_header(file: &[u8], section: InFile) -> Header
     ensures { λ r. ⌜ r ≡ headerAt (now (file .entry)) section ⌝ }
 {
     Header {
-        filename_count: word_at(file, section, InSection(0)),
-        filename_storage_size: word_at(file, section, InSection(4)),
-        file_region_count: word_at(file, section, InSection(8)),
-        scope_desc_offset: word_at(file, section, InSection(12)),
-        textified_callee_offset: word_at(file, section, InSection(16)),
-        string_table_offset: word_at(file, section, InSection(20)),
-        debug_data_size: word_at(file, section, InSection(24)),
+        filename_count: word_at(file, section, 0),
+        filename_storage_size: word_at(file, section, 1),
+        file_region_count: word_at(file, section, 2),
+        scope_desc_offset: word_at(file, section, 3),
+        textified_callee_offset: word_at(file, section, 4),
+        string_table_offset: word_at(file, section, 5),
+        debug_data_size: word_at(file, section, 6),
     }
 }
 
@@ -196,7 +203,7 @@ pub fn find_parts(file: &[u8], offset: u32) -> PartsFound
 
 // The bytes of a part.
 pub fn part_bytes(file: &[u8], p: Part) -> &[u8]
-    ensures { λ r. ⌜ now r ≡ partBytes (now (file .entry)) p ⌝ }
+    ensures { λ r. ⌜ PartBytes (file .entry) p r ⌝ }
 {
     let start = p.start;
     part(

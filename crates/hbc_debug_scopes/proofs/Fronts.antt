@@ -15,7 +15,7 @@ use Rattle.hbc_io.specs.declared.Refusal.{Refusal}
 use Rattle.hbc_io.proofs.Reading.{valued-got, valued-refused, then-got}
 use Rattle.hbc_io_leb.specs.Signed.{slebAt, bitsOf, heldOf, upTo, under, natural, low32}
 use Rattle.hbc_io_leb.specs.declared.Held.{Held}
-use Rattle.hbc_io_leb.proofs.Signed.{bits-up-to, bits-low, natural-bits, natural-le}
+use Rattle.hbc_io_leb.proofs.Signed.{bits-pos, bits-neg, bits-up-to, bits-low, natural-bits, natural-le}
 use Rattle.hbc_io_leb.proofs.Helds.{Bits, bits-got, bits-refused}
 use Rattle.hbc_rows.specs.Until.{until, flat, Ended}
 use Rattle.hbc_io_leb.proofs.Moves.{sleb-moves}
@@ -31,9 +31,9 @@ use Rattle.hbc_debug_scopes.specs.Private.{headOf, wordBits}
 use Rattle.hbc_debug_scopes.specs.declared.Head.{Head}
 
 pub word-bits : (m : ℕ) (z : ℤ) → SFits w64 z → m < 2 ^ 63 → wordBits m (bitsOf z) ≡ wordBelow m z
-unfolding wordBits wordBelow under bitsOf
-word-bits m (pos n) h k = refl
-word-bits m (negsuc n) h k = rw (le-ltb (2 ^ 64 - suc n) m (omega (arith, h .sfits)))
+unfolding wordBits wordBelow under
+word-bits m (pos n) h k = rw (bits-pos n h)
+word-bits m (negsuc n) h k = rw (bits-neg n h, le-ltb (2 ^ 64 - suc n) m (omega (arith, h .sfits)))
 
 then-1 : {A B : Type 0} (o : Outcome A) (f : A → Cursor → Outcome B) (a : A) (m : Cursor) → o ≡ got a m → andThen o f ≡ f a m
 then-1 o f a m e = rw e
@@ -62,8 +62,8 @@ module _ (s : List ℕ) (c : Cursor) where
             let u : upTo (length s - c₃ .at) (k .z .value) ≡ true
             = sym (bits-up-to (length s - c₃ .at) (k .z .value) (k .fits) (omega arith)) ∙ le-leb (bitsOf (k .z .value)) (length s - c₃ .at) (omega (arith, k .bits)) in
             let w : p ≡ wordBelow absent (g .z .value) = q ∙ ap (wordBits absent) (g .bits) ∙ word-bits absent (g .z .value) (g .fits) (omega arith) in
-            let f : b₂ .bits % 4294967296 ≡ low32 (h .z .value) = ap (λ (x : ℕ). x % 4294967296) (h .bits) ∙ bits-low (h .z .value) (h .fits) in
-            let n : b₃ .bits ≡ natural (k .z .value) = k .bits ∙ sym (natural-bits (length s - c₃ .at) (k .z .value) u) in
+            let f : b₂ .bits % 4294967296 ≡ low32 (h .z .value) = ap (λ (x : ℕ). x % 4294967296) (h .bits) ∙ bits-low (h .z .value) in
+            let n : b₃ .bits ≡ natural (k .z .value) = k .bits ∙ sym (natural-bits (length s - c₃ .at) (k .z .value) (k .fits) u) in
             rw (g .is, h .is, k .is, u) (cc)
 
         pub head-5 : length s - c₃ .at < b₃ .bits → refused (refusal 3) c₃ ≡ valued headOf (frontAt s c)
@@ -163,7 +163,7 @@ scope-refused s c r n e = rw (valued-refused headOf (frontAt s c) r n e)
 pub cell-is : (m : ℕ) {s : List ℕ} {c : Cursor} {b : Held} {n : Cursor} {r : ℕ} (g : Bits s c b n) → r ≡ wordBits m (b .bits) → m < 2 ^ 63 → r ∷ [] ≡ nameCell m (g .z)
 cell-is m g e h = let w = word-bits m (g .z .value) (g .fits) h in let k = g .bits in ap (λ (x : ℕ). x ∷ []) (e ∙ ap (wordBits m) k ∙ w)
 
-length-cells : (m : ℕ) (zs : List Sleb) → length (flat (nameCell m) zs) ≡ length zs
+pub length-cells : (m : ℕ) (zs : List Sleb) → length (flat (nameCell m) zs) ≡ length zs
 length-cells m [] = refl
 length-cells m (z ∷ zs) = ap suc (length-cells m zs)
 

@@ -1,15 +1,21 @@
 -- docs/FORMAT.md, section 7.4: the scopes of a part, their names, and their rows.
-use mathlib.Core.Path.{_≡_}
-use Prim.Native.Nat.{ℕ, _-_}
+use Prim.Native.Nat.{ℕ, _*_, _-_}
 use mathlib.Core.List.{List, [], _∷_}
 use mathlib.Core.Bool.{cond}
 use lib.ListN.{length}
 use lib.IntN.{ℤ}
-use lib.Seq.{sets}
 use Rattle.hbc_io.specs.Outcome.{Outcome, got, refused, andThen, cursorAt, refusal}
 use Rattle.hbc_io.specs.declared.Cursor.{Cursor}
 use Rattle.hbc_io_leb.specs.declared.Sleb.{Sleb}
+use Rattle.hbc_io.specs.Answer.{Answer, gives, refuses}
+use Rattle.hbc_io.specs.Lends.{Lends}
+use Rattle.hbc_rows.specs.Rows.{rows}
 use Rattle.hbc_rows.specs.Until.{until, after, flat, flatFrom, sum}
+use Rattle.hbc_debug_parts.specs.declared.Written.{Written}
+use Rattle.hbc_debug_parts.specs.Lists.{saysWritten, inLimit, withRoom, inFront}
+use Rattle.hbc_debug_scopes.specs.declared.ScopeCounts.{ScopeCounts}
+use Rattle.hbc_debug_scopes.specs.declared.ScopesCounted.{ScopesCounted}
+use Rattle.hbc_debug_scopes.specs.declared.ScopesCounted.the-variants as counted
 use Rattle.hbc_io_leb.specs.Signed.{slebAt, upTo, under, natural, low32}
 
 -- what stands before the names
@@ -101,12 +107,23 @@ nameWords n xs = flat (nameRow n) xs
 abbrev pub namesIn : List Scope → ℕ
 namesIn xs = sum nameCount xs
 
--- the promise of count_scopes: how many rows each of the two tables takes
-pub record CountScopes (s : List ℕ) (scopes names : ℕ) : Type 0 where
-  pub scopes-are : scopes ≡ length (scopesOf s)
-  pub names-are : names ≡ namesIn (scopesOf s)
+-- ---- the calls
 
--- the promise of write_scopes: the two tables with their rows in them; the words past those are as they were
-pub record WriteScopes (s : List ℕ) (strings : ℕ) (rows names rows′ names′ : List ℕ) : Type 0 where
-  pub rows-are : rows′ ≡ sets rows 0 (scopeWords (scopesOf s))
-  pub names-are : names′ ≡ sets names 0 (nameWords strings (scopesOf s))
+abbrev pub saysScopesCounted : ScopesCounted → Answer ScopeCounts
+saysScopesCounted (counted.Counts n) = gives n
+saysScopesCounted (counted.Refused r) = refuses r
+
+-- how many rows each of the two tables takes; 1 for a part of more than 2^30 bytes
+unfoldable pub countScopes : List ℕ → Answer ScopeCounts
+countScopes s = inLimit (length s) (gives (record { scopes = length (scopesOf s); names = namesIn (scopesOf s) }))
+
+-- 1, then 4 where fewer scopes or names are lent than are counted
+abbrev pub scopesAnswer : List ℕ → ScopeCounts → List ℕ × List ℕ → Answer (Unit {0})
+scopesAnswer s counts before =
+    inLimit (length s) (withRoom (rows scopeWidth (before .0)) (counts .scopes) (withRoom (length (before .1)) (counts .names) (gives tt)))
+
+-- the rows of the first scopes and the words of the first names, as many as are counted, of all where there are fewer
+abbrev pub WriteScopes : List ℕ → ℕ → ScopeCounts → List ℕ × List ℕ → Written → List ℕ × List ℕ → Type 0
+WriteScopes s strings counts before =
+    Lends saysWritten (scopesAnswer s counts before)
+    (inFront (counts .scopes * scopeWidth) (scopeWords (scopesOf s)) (before .0), inFront (counts .names) (nameWords strings (scopesOf s)) (before .1)) before

@@ -5,10 +5,13 @@ ghost use lib.Seq.{sets};
 ghost use Rattle.hbc_io.specs.Outcome.{valued};
 ghost use Rattle.hbc_io_leb.specs.Signed.{slebAt};
 ghost use Rattle.hbc_rows.specs.Until.{until, flat, Ended};
-ghost use Rattle.hbc_debug_scopes.specs.Scopes.{frontAt, nameCell, CountScopes, WriteScopes};
-ghost use Rattle.hbc_debug_scopes.specs.Private.{headOf, saysHead, wordBits};
+ghost use Rattle.hbc_debug_scopes.specs.Scopes.{frontAt, nameCell, saysScopesCounted, countScopes, WriteScopes};
+ghost use Rattle.hbc_debug_scopes.specs.Private.{headOf, saysHead, wordBits, ScopesAre, RowsAre};
+use hbc_debug_parts::Written;
 use hbc_io::Cursor;
 use hbc_io::Failed;
+use hbc_io::LIMIT;
+use hbc_io::Refusal;
 use hbc_io::refuse;
 use hbc_io_leb::ReadHeld;
 use hbc_io_leb::read_sleb128_bits;
@@ -52,6 +55,12 @@ pub struct Names {
 pub struct ScopeCounts {
     pub scopes: usize,
     pub names: usize,
+}
+
+// The answer of the counting pass.
+pub enum ScopesCounted {
+    Counts(ScopeCounts),
+    Refused(Refusal),
 }
 
 // A number below `most`, or the word for none.
@@ -166,9 +175,8 @@ fn write_names(
     }
 }
 
-// How many scopes a part has, and how many names in all.
-pub fn count_scopes(s: &[u8]) -> ScopeCounts
-    ensures { λ r. ⌜ CountScopes (now (s .entry)) (r .scopes) (r .names) ⌝ }
+fn count(s: &[u8]) -> ScopeCounts
+    ensures { λ r. ⌜ ScopesAre (now (s .entry)) (r .scopes) (r .names) ⌝ }
 {
     let mut here = Cursor { at: 0 };
     let mut left = s.len();
@@ -198,9 +206,8 @@ pub fn count_scopes(s: &[u8]) -> ScopeCounts
     }
 }
 
-// Writes a row a scope, and the names, each below `strings` or none.
-pub fn write_scopes(s: &[u8], strings: u32, rows: &mut [u32], names: &mut [u32])
-    ensures { λ r. ⌜ WriteScopes (now (s .entry)) strings (now (rows .entry)) (now (names .entry)) (now (rows .exit)) (now (names .exit)) ⌝ }
+fn write_rows(s: &[u8], strings: u32, rows: &mut [u32], names: &mut [u32])
+    ensures { λ r. ⌜ RowsAre (now (s .entry)) strings (now (rows .entry)) (now (names .entry)) (now (rows .exit)) (now (names .exit)) ⌝ }
 {
     let mut here = Cursor { at: 0 };
     let mut left = s.len();
@@ -229,4 +236,39 @@ pub fn write_scopes(s: &[u8], strings: u32, rows: &mut [u32], names: &mut [u32])
             }
         }
     }
+}
+
+// How many scopes a part has, and how many names in all.
+pub fn count_scopes(s: &[u8]) -> ScopesCounted
+    ensures { λ r. ⌜ saysScopesCounted r ≡ countScopes (now (s .entry)) ⌝ }
+{
+    if LIMIT < s.len() {
+        return ScopesCounted::Refused(refuse(1, 0));
+    }
+    ScopesCounted::Counts(count(s))
+}
+
+// Writes a row for each of the first scopes, as many as are counted, and their names, each below `strings` or none.
+pub fn write_scopes(
+    s: &[u8],
+    strings: u32,
+    counts: ScopeCounts,
+    rows: &mut [u32],
+    names: &mut [u32],
+) -> Written
+    ensures { λ r. ⌜ WriteScopes (now (s .entry)) strings counts (now (rows .entry), now (names .entry)) r (now (rows .exit), now (names .exit)) ⌝ }
+{
+    if LIMIT < s.len() {
+        return Written::Refused(refuse(1, 0));
+    }
+    if rows.len() / SCOPE_WORDS < counts.scopes {
+        return Written::Refused(refuse(4, 0));
+    }
+    if names.len() < counts.names {
+        return Written::Refused(refuse(4, 0));
+    }
+    let words = counts.scopes * SCOPE_WORDS;
+    let count = counts.names;
+    write_rows(s, strings, &mut rows[0..words], &mut names[0..count]);
+    Written::Rows
 }

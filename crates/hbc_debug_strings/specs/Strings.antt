@@ -1,15 +1,20 @@
 -- docs/FORMAT.md, section 7.3: the strings of a part, and their rows.
-use Prim.Native.Nat.{ℕ, _+_}
+use Prim.Native.Nat.{ℕ, _+_, _*_}
 use mathlib.Core.List.{List, [], _∷_}
-use mathlib.Core.Bool.{cond}
 use lib.ListN.{length}
-use lib.Seq.{sets}
-use lib.Dec.{ltb}
-use Rattle.hbc_io.specs.Outcome.{cursorAt, limit}
+use Rattle.hbc_io.specs.Outcome.{cursorAt}
+use Rattle.hbc_io.specs.Answer.{Answer, gives, refuses}
+use Rattle.hbc_io.specs.Lends.{Lends}
 use Rattle.hbc_io.specs.declared.Span.{Span}
 use Rattle.hbc_io_strings.specs.Text.{prefixed}
 use Rattle.hbc_debug_parts.specs.declared.InFile.{InFile}
+use Rattle.hbc_debug_parts.specs.declared.Written.{Written}
+use Rattle.hbc_debug_parts.specs.Lists.{saysWritten, inLimit, withRoom, inFront}
+use Rattle.hbc_rows.specs.Rows.{rows}
 use Rattle.hbc_rows.specs.Until.{until, flat}
+use Rattle.hbc_debug_strings.specs.declared.StringCount.{StringCount}
+use Rattle.hbc_debug_strings.specs.declared.StringsCounted.{StringsCounted}
+use Rattle.hbc_debug_strings.specs.declared.StringsCounted.the-variants as counted
 
 -- length-prefixed until one fails; each takes a byte, so that a part has at most as many as it has bytes
 unfoldable pub stringsOf : List ℕ → List Span
@@ -29,6 +34,18 @@ stringRow base p = partToFile base (p .start) .0 ∷ p .len ∷ []
 abbrev pub stringWords : InFile → List Span → List ℕ
 stringWords base ps = flat (stringRow base) ps
 
--- a table with the rows of a part in it; a part that lies in no file of at most 2^30 bytes has none
-unfoldable pub stringTable : InFile → List ℕ → List ℕ → List ℕ
-stringTable base s before = cond (ltb limit (base .0 + length s)) before (sets before 0 (stringWords base (stringsOf s)))
+-- ---- the calls
+
+abbrev pub saysStringsCounted : StringsCounted → Answer StringCount
+saysStringsCounted (counted.Counts n) = gives n
+saysStringsCounted (counted.Refused r) = refuses r
+
+-- how many strings there are; 1 for a part of more than 2^30 bytes
+unfoldable pub countStrings : List ℕ → Answer StringCount
+countStrings s = inLimit (length s) (gives (record { strings = length (stringsOf s) }))
+
+-- the rows of the first count strings, of all where there are fewer; 1 where no file of 2^30 bytes holds the part there, 4 where fewer rows are lent
+abbrev pub WriteStrings : List ℕ → InFile → ℕ → List ℕ → Written → List ℕ → Type 0
+WriteStrings s base count before =
+    Lends saysWritten (inLimit (base .0 + length s) (withRoom (rows stringWidth before) count (gives tt)))
+    (inFront (count * stringWidth) (stringWords base (stringsOf s)) before) before

@@ -4,11 +4,14 @@ ghost use Prim.Native.Nat.{_+_, _≤_};
 ghost use lib.ListN.{length};
 ghost use lib.Seq.{sets};
 ghost use Rattle.hbc_io.specs.Outcome.{limit};
-ghost use Rattle.hbc_debug_strings.specs.Strings.{stringsOf, partToFile, stringWords, stringTable};
+ghost use Rattle.hbc_debug_strings.specs.Strings.{stringsOf, partToFile, stringWords, saysStringsCounted, countStrings, WriteStrings};
 use hbc_debug_parts::InFile;
+use hbc_debug_parts::Written;
 use hbc_io::Cursor;
 use hbc_io::LIMIT;
 use hbc_io::ReadSpan;
+use hbc_io::Refusal;
+use hbc_io::refuse;
 use hbc_io_strings::read_length_prefixed_string;
 use hbc_rows::put_words;
 
@@ -20,8 +23,13 @@ pub struct StringCount {
     pub strings: usize,
 }
 
-// How many strings a part has.
-pub fn count_strings(part: &[u8]) -> StringCount
+// The answer of the counting pass.
+pub enum StringsCounted {
+    Counts(StringCount),
+    Refused(Refusal),
+}
+
+fn count(part: &[u8]) -> StringCount
     ensures { λ r. ⌜ r .strings ≡ length (stringsOf (now (part .entry))) ⌝ }
 {
     let mut here = Cursor { at: 0 };
@@ -74,15 +82,29 @@ fn write_rows(part: &[u8], base: InFile, rows: &mut [u32])
     }
 }
 
-// Writes a row a string, where `base` is the part's place in the file. A part that no file of LIMIT bytes holds there has no rows.
-pub fn write_strings(part: &[u8], base: InFile, rows: &mut [u32])
-    ensures { λ r. ⌜ now (rows .exit) ≡ stringTable base (now (part .entry)) (now (rows .entry)) ⌝ }
+// How many strings a part has.
+pub fn count_strings(part: &[u8]) -> StringsCounted
+    ensures { λ r. ⌜ saysStringsCounted r ≡ countStrings (now (part .entry)) ⌝ }
 {
     if LIMIT < part.len() {
-        return;
+        return StringsCounted::Refused(refuse(1, 0));
+    }
+    StringsCounted::Counts(count(part))
+}
+
+// Writes a row for each of the first `count` strings, where `base` is the part's place in the file.
+pub fn write_strings(part: &[u8], base: InFile, count: usize, rows: &mut [u32]) -> Written
+    ensures { λ r. ⌜ WriteStrings (now (part .entry)) base count (now (rows .entry)) r (now (rows .exit)) ⌝ }
+{
+    if LIMIT < part.len() {
+        return Written::Refused(refuse(1, 0));
     }
     if LIMIT - part.len() < base.0 {
-        return;
+        return Written::Refused(refuse(1, 0));
     }
-    write_rows(part, base, rows);
+    if rows.len() / STRING_WORDS < count {
+        return Written::Refused(refuse(4, 0));
+    }
+    write_rows(part, base, &mut rows[0..count * STRING_WORDS]);
+    Written::Rows
 }

@@ -25,9 +25,9 @@ use Rattle.hbc_function_record.specs.Record.{sizeOf}
 use Rattle.hbc_function_record.specs.Row.{width, rowWords}
 use Rattle.hbc_function_record.proofs.Rows.{words-length}
 use Rattle.hbc_function_header.specs.declared.Reading.{Reading}
-use Rattle.hbc_function_header.specs.Header.{saysReading, functionAt, readFunction, rowOf, rowInto}
+use Rattle.hbc_function_header.specs.Header.{saysReading, functionAt, rowOf, FunctionRow}
 use Rattle.hbc_function_header.specs.Meets.{meets}
-use Rattle.hbc_function_header.proofs.Headers.{read-at, into-row}
+use Rattle.hbc_function_header.proofs.Headers.{row-is}
 use Rattle.hbc_function.specs.declared.Refreshed.{Refreshed}
 use Rattle.hbc_function.specs.Table.{counted, step, scan, rowBy, rowIf, putRows, all, readAnswer}
 use Rattle.hbc_function.specs.Refresh.{saysRefreshed, held, refreshAnswer}
@@ -105,20 +105,17 @@ put-mid i (gives r) t h e =
     rw (e, drop-drop, n, le-ltb (length t) (i * width + width) h, sets-eq (rowWords r) t (i * width) l, words-length r, append-assoc)
 put-mid i (refuses x) t h e = rw (e, take-append-drop, take-append-drop) (sym (put-nothing t i))
 
-part-length : (i : ℕ) (t : List ℕ) → i * width + width ≤ length t → length (take (i * width + width - i * width) (drop (i * width) t)) ≡ width
+pub part-length : (i : ℕ) (t : List ℕ) → i * width + width ≤ length t → length (take (i * width + width - i * width) (drop (i * width) t)) ≡ width
 part-length i t h =
     let k : i * width + width - i * width ≤ length (drop (i * width) t) = rw length-drop (omega arith) in
     length-take-le (i * width + width - i * width) (drop (i * width) t) k ∙ omega arith
 
-pub row-put : (s : List ℕ) (layout : Layout) (start id i : ℕ) (t : List ℕ) {row : List ℕ} → length s ≤ limit → start ≤ length s → i * width + width ≤ length t
-    → row ≡ rowInto (readFunction s layout start id) (take (i * width + width - i * width) (drop (i * width) t))
+pub row-put : (s : List ℕ) (layout : Layout) (start id i : ℕ) (t : List ℕ) {r : Reading} {row : List ℕ} → length s ≤ limit → start ≤ length s
+    → i * width + width ≤ length t → FunctionRow s layout start id (take (i * width + width - i * width) (drop (i * width) t)) r row
     → putMid (i * width) (i * width + width - i * width) t row ≡ rows.putRow width t i (rowBy (functionAt s layout start id))
 row-put s layout start id i t h k l e =
-    let part = take (i * width + width - i * width) (drop (i * width) t) in
     put-mid i (functionAt s layout start id) t l
-    (e
-    ∙ sym (into-row (readFunction s layout start id) part (part-length i t l))
-    ∙ ap (λ (a : Answer Record). rowOf a part) (sym (read-at s layout start id h k)))
+    (row-is s layout start id (take (i * width + width - i * width) (drop (i * width) t)) h k (part-length i t l) e)
 
 module _ (chosen : ℕ → Bool) (f : ℕ → Answer Record) (t : List ℕ) where
   pub put-none : putRows chosen f t 0 ≡ t

@@ -7,7 +7,7 @@ use Rattle.hbc_io.specs.Lends.{below, Lends}
 use Rattle.hbc_function_record.specs.declared.Layout.{Layout}
 use Rattle.hbc_function_record.specs.Record.{sizeOf}
 use Rattle.hbc_function_header.specs.Header.{functionAt, opened}
-use Rattle.hbc_function_header.specs.Meets.{meets}
+use Rattle.hbc_function_header.specs.Meets.{meets, spanned}
 use Rattle.hbc_function.specs.Table.{scan, putRows, roomed}
 use Rattle.hbc_function.specs.declared.Refreshed.{Refreshed}
 use Rattle.hbc_function.specs.declared.Refreshed.the-variants as refreshed
@@ -20,10 +20,6 @@ saysRefreshed (refreshed.Refused r) = refuses r
 -- how many inline headers fit, which is the number of the first that does not
 unfoldable pub held : List ℕ → Layout → ℕ → ℕ
 held s layout start = (length s - start) / sizeOf layout
-
--- 10: low > high, or high > length; else what follows
-abbrev pub spanned : {A : Type 0} → List ℕ → ℕ → ℕ → Answer A → Answer A
-spanned s low high a = below high low (refusedAt 10 0) (below (length s) high (refusedAt 10 0) a)
 
 -- 3 at the first header that does not fit; else what follows
 abbrev pub fitted : {A : Type 0} → List ℕ → Layout → ℕ → ℕ → Answer A → Answer A

@@ -7,11 +7,13 @@ ghost use Rattle.hbc_io.specs.Answer.{gives, asked};
 ghost use Rattle.hbc_io.specs.Outcome.{limit};
 ghost use Rattle.hbc_rows.specs.Rows.{putRow};
 ghost use Rattle.hbc_function_record.specs.Row.{width};
+ghost use Rattle.hbc_function_record.specs.declared.Layout.the-variants.{Legacy16, Modern12};
 ghost use Rattle.hbc_function_header.specs.Header.{saysReading, functionAt};
 ghost use Rattle.hbc_function_header.specs.Meets.{meets};
 ghost use Rattle.hbc_function.specs.Table.{all, scan, rowBy, putRows, ReadFunctions};
 ghost use Rattle.hbc_function.specs.Refresh.{saysRefreshed, held, putMet, RefreshFunctions};
 ghost use Rattle.hbc_function.specs.Private.{Next};
+use hbc_function_header::Meeting;
 use hbc_function_header::Reading;
 use hbc_function_header::check_function;
 use hbc_function_header::function_meets;
@@ -37,12 +39,15 @@ fn check_at(s: &[u8], layout: Layout, start: usize, id: u32) -> Reading
     check_function(s, layout, start, id)
 }
 
-// Whether function `id` meets the span.
+// Whether function `id` meets a span of the file. One whose header is not there does not.
 fn meets_at(s: &[u8], layout: Layout, start: usize, low: usize, high: usize, id: u32) -> bool
-    requires { ⌜ length (now s) ≤ limit ⌝ }
+    requires { ⌜ (start ≤ length (now s)) × (length (now s) ≤ limit) × (low ≤ high) × (high ≤ length (now s)) ⌝ }
     ensures { λ b. ⌜ b ≡ meets (now (s .entry)) layout start low high id ⌝ }
 {
-    function_meets(s, layout, start, id, low, high)
+    match function_meets(s, layout, start, id, low, high) {
+        Meeting::Met(met) => met,
+        Meeting::Refused(r) => false,
+    }
 }
 
 // The row of function `id` into its place.
@@ -55,14 +60,14 @@ fn write_row(s: &[u8], layout: Layout, start: usize, id: u32, table: &mut [u32])
     function_row(s, layout, start, id, &mut table[at..at + WIDTH]);
 }
 
-// The first refusal among functions 0 to count - 1.
-fn check_all(s: &[u8], layout: Layout, start: usize, count: u32) -> Reading
+// The first refusal among functions 0 to count - 1: a loop for each layout, so that no turn asks which it is.
+fn check_legacy(s: &[u8], start: usize, count: u32) -> Reading
     requires { ⌜ (start ≤ length (now s)) × (length (now s) ≤ limit) ⌝ }
-    ensures { λ r. ⌜ saysReading r ≡ asked (scan all (functionAt (now (s .entry)) layout start) count) ⌝ }
+    ensures { λ r. ⌜ saysReading r ≡ asked (scan all (functionAt (now (s .entry)) Legacy16 start) count) ⌝ }
 {
     let mut id: u32 = 0;
     while id < count {
-        if let Reading::Refused(r) = check_at(s, layout, start, id) {
+        if let Reading::Refused(r) = check_at(s, Layout::Legacy16, start, id) {
             return Reading::Refused(r);
         }
         id += 1;
@@ -70,16 +75,63 @@ fn check_all(s: &[u8], layout: Layout, start: usize, count: u32) -> Reading
     Reading::Read
 }
 
-// The rows of functions `from` to `to` - 1 into their places. All rows are written by this one loop, so that function_row is inlined once.
+fn check_modern(s: &[u8], start: usize, count: u32) -> Reading
+    requires { ⌜ (start ≤ length (now s)) × (length (now s) ≤ limit) ⌝ }
+    ensures { λ r. ⌜ saysReading r ≡ asked (scan all (functionAt (now (s .entry)) Modern12 start) count) ⌝ }
+{
+    let mut id: u32 = 0;
+    while id < count {
+        if let Reading::Refused(r) = check_at(s, Layout::Modern12, start, id) {
+            return Reading::Refused(r);
+        }
+        id += 1;
+    }
+    Reading::Read
+}
+
+fn check_all(s: &[u8], layout: Layout, start: usize, count: u32) -> Reading
+    requires { ⌜ (start ≤ length (now s)) × (length (now s) ≤ limit) ⌝ }
+    ensures { λ r. ⌜ saysReading r ≡ asked (scan all (functionAt (now (s .entry)) layout start) count) ⌝ }
+{
+    match layout {
+        Layout::Legacy16 => check_legacy(s, start, count),
+        Layout::Modern12 => check_modern(s, start, count),
+    }
+}
+
+// The rows of functions `from` to `to` - 1 into their places. All rows of a layout are written by one loop, so that its row is made there.
+fn write_legacy(s: &[u8], start: usize, from: u32, to: u32, table: &mut [u32])
+    requires { ⌜ (start ≤ length (now s)) × (length (now s) ≤ limit) ⌝ }
+    requires { ⌜ (from ≤ to) × (to * width ≤ length (now table)) ⌝ }
+    ensures { λ _. ⌜ now (table .exit) ≡ putRows (leb from) (functionAt (now (s .entry)) Legacy16 start) (now (table .entry)) to ⌝ }
+{
+    let mut id = from;
+    while id < to {
+        write_row(s, Layout::Legacy16, start, id, table);
+        id += 1;
+    }
+}
+
+fn write_modern(s: &[u8], start: usize, from: u32, to: u32, table: &mut [u32])
+    requires { ⌜ (start ≤ length (now s)) × (length (now s) ≤ limit) ⌝ }
+    requires { ⌜ (from ≤ to) × (to * width ≤ length (now table)) ⌝ }
+    ensures { λ _. ⌜ now (table .exit) ≡ putRows (leb from) (functionAt (now (s .entry)) Modern12 start) (now (table .entry)) to ⌝ }
+{
+    let mut id = from;
+    while id < to {
+        write_row(s, Layout::Modern12, start, id, table);
+        id += 1;
+    }
+}
+
 fn write_rows(s: &[u8], layout: Layout, start: usize, from: u32, to: u32, table: &mut [u32])
     requires { ⌜ (start ≤ length (now s)) × (length (now s) ≤ limit) ⌝ }
     requires { ⌜ (from ≤ to) × (to * width ≤ length (now table)) ⌝ }
     ensures { λ _. ⌜ now (table .exit) ≡ putRows (leb from) (functionAt (now (s .entry)) layout start) (now (table .entry)) to ⌝ }
 {
-    let mut id = from;
-    while id < to {
-        write_row(s, layout, start, id, table);
-        id += 1;
+    match layout {
+        Layout::Legacy16 => write_legacy(s, start, from, to, table),
+        Layout::Modern12 => write_modern(s, start, from, to, table),
     }
 }
 
@@ -119,7 +171,7 @@ fn next_met(
     from: u32,
     count: u32,
 ) -> u32
-    requires { ⌜ (length (now s) ≤ limit) × (from ≤ count) ⌝ }
+    requires { ⌜ (start ≤ length (now s)) × (length (now s) ≤ limit) × (low ≤ high) × (high ≤ length (now s)) × (from ≤ count) ⌝ }
     ensures { λ r. ⌜ Next (meets (now (s .entry)) layout start low high) from count r ⌝ }
 {
     let mut id = from;
@@ -142,7 +194,7 @@ fn check_met(
     high: usize,
     first: u32,
 ) -> Refreshed
-    requires { ⌜ (start ≤ length (now s)) × (length (now s) ≤ limit) ⌝ }
+    requires { ⌜ (start ≤ length (now s)) × (length (now s) ≤ limit) × (low ≤ high) × (high ≤ length (now s)) ⌝ }
     requires { ⌜ Next (meets (now s) layout start low high) 0 count first ⌝ }
     ensures { λ r. ⌜ saysRefreshed r ≡ scan (meets (now (s .entry)) layout start low high) (functionAt (now (s .entry)) layout start) count ⌝ }
 {
@@ -170,7 +222,7 @@ fn patch_met(
     n: u32,
     table: &mut [u32],
 )
-    requires { ⌜ (start ≤ length (now s)) × (length (now s) ≤ limit) ⌝ }
+    requires { ⌜ (start ≤ length (now s)) × (length (now s) ≤ limit) × (low ≤ high) × (high ≤ length (now s)) ⌝ }
     requires { ⌜ Next (meets (now s) layout start low high) 0 count first ⌝ }
     requires { ⌜ scan (meets (now s) layout start low high) (functionAt (now s) layout start) count ≡ gives n ⌝ }
     requires { ⌜ count * width ≤ length (now table) ⌝ }

@@ -1,19 +1,19 @@
 -- The cases of Header's definitions, each from plain facts on numbers.
 use Prim.Native.Nat.{ℕ, _+_, _*_, _^_, _≤_, _<_}
-use mathlib.Core.Path.{_≡_, refl, ap, sym, _∙_}
+use mathlib.Core.Path.{_≡_, refl, ap, sym, _∙_, subst}
 use mathlib.Core.List.{List, _++_, append-nil}
 use mathlib.Core.Bool.{Bool, true, false, cond}
 use native.Mathlib.Omega.{arith}
 use native.Mathlib.Nat.{zero-mul}
 use lib.ListN.{length, drop-of-length-le}
 use lib.Seq.{sets, sets-eq}
-use lib.Dec.{ltb, eqb}
+use lib.Dec.{ltb}
 use borrow.Author.Tests.{le-ltb, lt-ltb, ltb-false, eq-eqb, ne-eqb}
 use Rattle.hbc_io.specs.Outcome.{limit}
-use Rattle.hbc_io.specs.Answer.{Answer, gives, refusedAt}
-use Rattle.hbc_io.specs.Lends.{below}
+use Rattle.hbc_io.specs.Answer.{Answer, gives, refuses, refusedAt, asked}
+use Rattle.hbc_io.specs.Lends.{below, choose, written}
 use Rattle.hbc_io.specs.Plain.{wordAt}
-use Rattle.hbc_io.proofs.Exits.{reached}
+use Rattle.hbc_io.proofs.Exits.{reached, words}
 use Rattle.hbc_io.proofs.Plains.{word-there}
 use Rattle.hbc_rows.specs.Rows.{putRow}
 use Rattle.hbc_function_record.specs.declared.Layout.{Layout}
@@ -24,11 +24,14 @@ use Rattle.hbc_function_record.specs.Record.{sizeOf, largeOf, inlineOf, largeIn
 use Rattle.hbc_function_record.specs.Row.{width, rowWords}
 use Rattle.hbc_function_record.proofs.Records.{large-there}
 use Rattle.hbc_function_record.proofs.Rows.{words-length}
+use Rattle.hbc_function_header.specs.declared.Reading.{Reading}
 use Rattle.hbc_function_header.specs.declared.Ground.{Ground}
 use Rattle.hbc_function_header.specs.declared.Ground.the-variants as ground
 use Rattle.hbc_function_header.specs.declared.Where.{Where}
 use Rattle.hbc_function_header.specs.declared.Where.the-variants as wh
-use Rattle.hbc_function_header.specs.Header.{headerAt, groundBy, groundOf, groundAt, groundIn, whereOf, whereAt, found, recordAt, functionAt, readFunction, rowOf, rowInto}
+use Rattle.hbc_function_header.specs.Header.{saysReading, headerAt, groundBy, groundOf, groundAt, whereOf, whereAt, found, recordAt, functionAt, opened, headed}
+use Rattle.hbc_function_header.specs.Header.{readFunction, functionGround, rowOf, rowAnswer, FunctionRow}
+use Rattle.hbc_function_header.specs.Private.{RowBy}
 
 -- ---- the place of a header
 
@@ -120,6 +123,30 @@ module _ (s : List ℕ) (layout : Layout) (at : ℕ) where
     found-large {place = place} h f p =
         ap gives (p ∙ sym (large-there s layout place i h (where-there s (largeOf layout) (groundOf s layout at) (sym e ∙ f)))) ∙ is-found f
 
+-- ---- the tests of a call, whatever it answers
+
+module _ {A : Type 0} (s : List ℕ) (start : ℕ) (a : Answer A) where
+  pub opened-long : limit < length s → refusedAt 1 0 ≡ opened s start a
+  unfolding below
+  opened-long h = sym (rw (lt-ltb limit (length s) h))
+
+  pub opened-past : length s ≤ limit → length s < start → refusedAt 2 0 ≡ opened s start a
+  unfolding below
+  opened-past h k = sym (rw (le-ltb limit (length s) h, lt-ltb (length s) start k))
+
+  pub opened-at : length s ≤ limit → start ≤ length s → a ≡ opened s start a
+  unfolding below
+  opened-at h k = sym (rw (le-ltb limit (length s) h, le-ltb (length s) start k))
+
+module _ {A : Type 0} (s : List ℕ) (layout : Layout) (start i : ℕ) (a : Answer A) where
+  pub headed-none : length s < headerAt layout start i + sizeOf layout → refusedAt 3 i ≡ headed s layout start i a
+  unfolding below
+  headed-none h = sym (rw (lt-ltb (length s) (headerAt layout start i + sizeOf layout) h))
+
+  pub headed-at : headerAt layout start i + sizeOf layout ≤ length s → a ≡ headed s layout start i a
+  unfolding below
+  headed-at h = sym (rw (le-ltb (length s) (headerAt layout start i + sizeOf layout) h))
+
 -- ---- the calls
 
 module _ (s : List ℕ) (layout : Layout) (start i : ℕ) {at : ℕ} (e : at ≡ headerAt layout start i) where
@@ -133,28 +160,38 @@ module _ (s : List ℕ) (layout : Layout) (start i : ℕ) {at : ℕ} (e : at ≡
 
 module _ (s : List ℕ) (layout : Layout) (start i : ℕ) where
   pub read-long : limit < length s → refusedAt 1 0 ≡ readFunction s layout start i
-  unfolding readFunction below
-  read-long h = sym (rw (lt-ltb limit (length s) h))
+  unfolding readFunction
+  read-long h = opened-long s start _ h
 
   pub read-past : length s ≤ limit → length s < start → refusedAt 2 0 ≡ readFunction s layout start i
-  unfolding readFunction below
-  read-past h k = sym (rw (le-ltb limit (length s) h, lt-ltb (length s) start k))
+  unfolding readFunction
+  read-past h k = opened-past s start _ h k
 
   pub read-at : length s ≤ limit → start ≤ length s → functionAt s layout start i ≡ readFunction s layout start i
-  unfolding readFunction below
-  read-at h k = sym (rw (le-ltb limit (length s) h, le-ltb (length s) start k))
+  unfolding readFunction
+  read-at h k = opened-at s start _ h k
 
-  pub in-long : limit < length s → ground.None ≡ groundIn s layout start i
-  unfolding groundIn below
-  in-long h = sym (rw (lt-ltb limit (length s) h))
+  pub ground-long : limit < length s → refusedAt 1 0 ≡ functionGround s layout start i
+  unfolding functionGround
+  ground-long h = opened-long s start _ h
 
-  pub in-file : length s ≤ limit → groundAt s layout start i ≡ groundIn s layout start i
-  unfolding groundIn below
-  in-file h = sym (rw (le-ltb limit (length s) h))
+  pub ground-past : length s ≤ limit → length s < start → refusedAt 2 0 ≡ functionGround s layout start i
+  unfolding functionGround
+  ground-past h k = opened-past s start _ h k
 
-  -- past the end there is no header
-  pub in-past : length s ≤ limit → length s < start → ground.None ≡ groundIn s layout start i
-  in-past h k = ground-cut s layout (headerAt layout start i) (omega arith) ∙ is-ground s layout start i refl ∙ in-file h
+  pub ground-none : {at n : ℕ} → length s ≤ limit → start ≤ length s → at ≡ headerAt layout start i → n ≡ sizeOf layout → length s < at + n
+      → refusedAt 3 i ≡ functionGround s layout start i
+  unfolding functionGround
+  ground-none h k e f m = headed-none s layout start i _ (rw (← e, ← f) m) ∙ opened-at s start _ h k
+
+  -- its own header is in the file: what it is read from
+  pub ground-at : {at n : ℕ} {l v : Link} → length s ≤ limit → start ≤ length s → at ≡ headerAt layout start i → n ≡ sizeOf layout → at + n ≤ length s
+      → l ≡ linkOf (inlineOf layout 0 (wordAt (sizeOf layout) s at)) → l ≡ v → gives (groundBy at v) ≡ functionGround s layout start i
+  unfolding functionGround
+  ground-at {at} h k e f m p q =
+      let w : headerAt layout start i + sizeOf layout ≤ length s = rw (← e, ← f) m in
+      let u : at + sizeOf layout ≤ length s = rw (← f) m in
+      ap gives (ground-by s layout at u p q ∙ is-ground s layout start i e) ∙ headed-at s layout start i _ w ∙ opened-at s start _ h k
 
 -- ---- a lent row
 
@@ -176,24 +213,45 @@ pub row-read : {r : Record} (a : Answer Record) (before words : List ℕ) {row :
 row-read {r = r} a before words h e g p =
     p ∙ row-whole before words (ap length g ∙ words-length r ∙ sym h) ∙ g ∙ ap (λ (o : Answer Record). rowOf o before) e
 
-module _ (a : Answer Record) (before : List ℕ) where
-  pub into-row : length before ≡ width → rowOf a before ≡ rowInto a before
-  unfolding rowInto
-  into-row e = sym (rw (eq-eqb (length before) width e))
+-- what the call for one row leaves, by its answer: past its tests the row is the function's, or as it was where that is refused
+written-by : (a : Answer Record) (before : List ℕ) → written (asked a) (rowOf a before) before ≡ rowOf a before
+written-by (gives r) before = refl
+written-by (refuses x) before = refl
 
-  pub into-none : (length before ≡ width → ⊥) → before ≡ rowInto a before
-  unfolding rowInto
-  into-none e = sym (rw (ne-eqb (length before) width e))
+module _ (s : List ℕ) (layout : Layout) (start i words : ℕ) where
+  pub row-long : limit < length s → refusedAt 1 0 ≡ rowAnswer s layout start i words
+  unfolding rowAnswer
+  row-long h = opened-long s start _ h
 
-stays-by : (k place : ℕ) (b : Bool) (before : List ℕ) → before ≡ cond b (rowOf (refusedAt k place) before) before
-stays-by k place true before = refl
-stays-by k place false before = refl
+  pub row-past : length s ≤ limit → length s < start → refusedAt 2 0 ≡ rowAnswer s layout start i words
+  unfolding rowAnswer
+  row-past h k = opened-past s start _ h k
 
-pub into-refused : {a : Answer Record} {k place : ℕ} (before : List ℕ) → refusedAt k place ≡ a → before ≡ rowInto a before
-unfolding rowInto
-into-refused {a} {k} {place} before e = rw (← e) (stays-by k place (eqb (length before) width) before)
+module _ (s : List ℕ) (layout : Layout) (start i words : ℕ) (h : length s ≤ limit) (k : start ≤ length s) where
+  pub row-one : words ≡ width → asked (functionAt s layout start i) ≡ rowAnswer s layout start i words
+  unfolding rowAnswer choose
+  row-one e = sym (sym (opened-at s start _ h k) ∙ rw (eq-eqb words width e))
 
-pub row-into : (s : List ℕ) (layout : Layout) (start i : ℕ) (before : List ℕ) {row : List ℕ} {at : ℕ} → row ≡ rowOf (recordAt s layout at i) before → at ≡ headerAt layout start i
-    → length s ≤ limit → start ≤ length s → length before ≡ width → row ≡ rowInto (readFunction s layout start i) before
-row-into s layout start i before e f h k l =
-    e ∙ ap (λ (a : Answer Record). rowOf a before) (is-function s layout start i f ∙ read-at s layout start i h k) ∙ into-row (readFunction s layout start i) before l
+  pub row-other : (words ≡ width → ⊥) → refusedAt 4 0 ≡ rowAnswer s layout start i words
+  unfolding rowAnswer choose
+  row-other e = sym (sym (opened-at s start _ h k) ∙ rw (ne-eqb words width e))
+
+pub row-is : (s : List ℕ) (layout : Layout) (start i : ℕ) (before : List ℕ) {r : Reading} {row : List ℕ} → length s ≤ limit → start ≤ length s → length before ≡ width
+    → FunctionRow s layout start i before r row → row ≡ rowOf (functionAt s layout start i) before
+row-is s layout start i before h k l v =
+    words v
+    ∙ ap (λ (a : Answer (Unit {0})). written a (rowOf (functionAt s layout start i) before) before) (sym (row-one s layout start i (length before) h k l))
+    ∙ written-by (functionAt s layout start i) before
+
+-- the call itself, over the row by the header's place
+pub row-by : (s : List ℕ) (layout : Layout) (start i : ℕ) (before : List ℕ) {at : ℕ} {r : Reading} {row : List ℕ} → length s ≤ limit → start ≤ length s → length before ≡ width
+    → at ≡ headerAt layout start i → RowBy (recordAt s layout at i) before r row → FunctionRow s layout start i before r row
+row-by s layout start i before {r = r} h k l e v = record {
+  says = v .says ∙ ap asked (is-function s layout start i e) ∙ row-one s layout start i (length before) h k l;
+  leaves = v .leaves ∙ ap (λ (a : Answer Record). written (saysReading r) (rowOf a before) before) (is-function s layout start i e);
+}
+
+-- a row is the one of its layout
+pub row-of-layout : (s : List ℕ) (layout l : Layout) (at i : ℕ) {before : List ℕ} {r : Reading} {after : List ℕ} → layout ≡ l → RowBy (recordAt s l at i) before r after
+    → RowBy (recordAt s layout at i) before r after
+row-of-layout s layout l at i {before} {r} {after} e v = subst (λ (x : Layout). RowBy (recordAt s x at i) before r after) (sym e) v

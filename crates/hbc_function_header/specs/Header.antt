@@ -1,13 +1,12 @@
 -- docs/FORMAT.md, sections 3.5 and 3.7: one function, what it is read from, where its record is, and the record or the refusal; its row.
 use Prim.Native.Nat.{ℕ, _+_, _*_}
 use mathlib.Core.List.{List}
-use mathlib.Core.Bool.{cond}
 use lib.ListN.{length}
 use lib.Dec.{eqb}
 use Rattle.hbc_bits.specs.Bits.{leAt}
 use Rattle.hbc_io.specs.Outcome.{limit}
-use Rattle.hbc_io.specs.Answer.{Answer, gives, refuses, refusedAt}
-use Rattle.hbc_io.specs.Lends.{below}
+use Rattle.hbc_io.specs.Answer.{Answer, gives, refuses, refusedAt, asked}
+use Rattle.hbc_io.specs.Lends.{below, choose, Lends}
 use Rattle.hbc_function_record.specs.declared.Layout.{Layout}
 use Rattle.hbc_function_record.specs.declared.Record.{Record}
 use Rattle.hbc_function_record.specs.declared.Link.{Link}
@@ -20,6 +19,8 @@ use Rattle.hbc_function_header.specs.declared.Reading.{Reading}
 use Rattle.hbc_function_header.specs.declared.Reading.the-variants as reading
 use Rattle.hbc_function_header.specs.declared.Ground.{Ground}
 use Rattle.hbc_function_header.specs.declared.Ground.the-variants as ground
+use Rattle.hbc_function_header.specs.declared.Grounded.{Grounded}
+use Rattle.hbc_function_header.specs.declared.Grounded.the-variants as grounded
 use Rattle.hbc_function_header.specs.declared.Where.{Where}
 use Rattle.hbc_function_header.specs.declared.Where.the-variants as wh
 
@@ -31,6 +32,11 @@ saysFunction (fun.Refused r) = refuses r
 abbrev pub saysReading : Reading → Answer (Unit {0})
 saysReading reading.Read = gives tt
 saysReading (reading.Refused r) = refuses r
+
+abbrev pub saysGrounded : Grounded → Answer Ground
+saysGrounded (grounded.Inline at) = gives (ground.Inline at)
+saysGrounded (grounded.Large at place) = gives (ground.Large at place)
+saysGrounded (grounded.Refused r) = refuses r
 
 -- where the header of function i starts, in a table at start
 abbrev pub headerAt : Layout → ℕ → ℕ → ℕ
@@ -50,10 +56,6 @@ groundOf s layout at = below (length s) (at + sizeOf layout) ground.None (ground
 -- function i of the table at start
 unfoldable pub groundAt : List ℕ → Layout → ℕ → ℕ → Ground
 groundAt s layout start i = groundOf s layout (headerAt layout start i)
-
--- as a call of its own: in a file of more than 2^30 bytes a function has no ground
-unfoldable pub groundIn : List ℕ → Layout → ℕ → ℕ → Ground
-groundIn s layout start i = below limit (length s) ground.None (groundAt s layout start i)
 
 -- ---- where its record is
 
@@ -89,13 +91,26 @@ opened s start a = below limit (length s) (refusedAt 1 0) (below (length s) star
 unfoldable pub readFunction : List ℕ → Layout → ℕ → ℕ → Answer Record
 readFunction s layout start i = opened s start (functionAt s layout start i)
 
--- ---- a lent row afterwards
+-- 3 at i where its own header is not wholly in the file; else what follows
+abbrev pub headed : {A : Type 0} → List ℕ → Layout → ℕ → ℕ → Answer A → Answer A
+headed s layout start i a = below (length s) (headerAt layout start i + sizeOf layout) (refusedAt 3 i) a
+
+-- the answer for what it is read from; whether a large header is wholly in the file is not looked at
+unfoldable pub functionGround : List ℕ → Layout → ℕ → ℕ → Answer Ground
+functionGround s layout start i = opened s start (headed s layout start i (gives (groundAt s layout start i)))
+
+-- ---- a lent row
 
 -- the record's words, or as it was where there is none
 abbrev pub rowOf : Answer Record → List ℕ → List ℕ
 rowOf (gives r) before = rowWords r
 rowOf (refuses x) before = before
 
--- lent words that are not one row stay
-unfoldable pub rowInto : Answer Record → List ℕ → List ℕ
-rowInto a before = cond (eqb (length before) width) (rowOf a before) before
+-- 1, 2, then 4 where the words lent are not one row, then the function
+unfoldable pub rowAnswer : List ℕ → Layout → ℕ → ℕ → ℕ → Answer (Unit {0})
+rowAnswer s layout start i words = opened s start (choose (eqb words width) (asked (functionAt s layout start i)) (refusedAt 4 0))
+
+-- what the call for one row promises: the answer, and what the lent row has become
+abbrev pub FunctionRow : List ℕ → Layout → ℕ → ℕ → List ℕ → Reading → List ℕ → Type 0
+FunctionRow s layout start i before =
+    Lends saysReading (rowAnswer s layout start i (length before)) (rowOf (functionAt s layout start i) before) before

@@ -5,7 +5,9 @@ ghost use lib.ListN.{length};
 ghost use Rattle.hbc_io.specs.Answer.{asked};
 ghost use Rattle.hbc_io.specs.Outcome.{limit};
 ghost use Rattle.hbc_function_record.specs.Row.{width};
-ghost use Rattle.hbc_function_header.specs.Header.{saysFunction, saysReading, groundOf, whereOf, whereAt, recordAt, rowOf};
+ghost use Rattle.hbc_function_record.specs.declared.Layout.the-variants.{Legacy16, Modern12};
+ghost use Rattle.hbc_function_header.specs.Header.{saysFunction, saysReading, groundOf, whereOf, whereAt, recordAt};
+ghost use Rattle.hbc_function_header.specs.Private.{RowBy};
 use crate::Function;
 use crate::Ground;
 use crate::Reading;
@@ -82,20 +84,54 @@ pub(crate) fn check(s: &[u8], layout: Layout, at: usize, id: u32) -> Reading
     }
 }
 
-pub(crate) fn row(s: &[u8], layout: Layout, at: usize, id: u32, row: &mut [u32])
+// The row of each layout apart, so that a loop over one of them has nothing of the other.
+fn legacy_row(s: &[u8], at: usize, id: u32, row: &mut [u32]) -> Reading
     requires { ⌜ (at < 2 ^ 63) × (length (now s) ≤ limit) ⌝ }
     requires { ⌜ length (now row) ≡ width ⌝ }
-    ensures { λ _. ⌜ now (row .exit) ≡ rowOf (recordAt (now (s .entry)) layout at id) (now (row .entry)) ⌝ }
+    ensures { λ r. ⌜ RowBy (recordAt (now (s .entry)) Legacy16 at id) (now (row .entry)) r (now (row .exit)) ⌝ }
 {
-    match where_at(s, layout, at) {
+    match where_at(s, Layout::Legacy16, at) {
         Where::Inline => {
-            let words = row_words(inline_record(s, layout, at, id));
+            let words = row_words(inline_record(s, Layout::Legacy16, at, id));
             put_row(row, 0, &words);
+            Reading::Read
         }
         Where::Large(place) => {
-            let words = row_words(large_record(s, layout, place, id));
+            let words = row_words(large_record(s, Layout::Legacy16, place, id));
             put_row(row, 0, &words);
+            Reading::Read
         }
-        Where::Refused(_) => {}
+        Where::Refused(number) => Reading::Refused(refuse(number, id)),
+    }
+}
+
+fn modern_row(s: &[u8], at: usize, id: u32, row: &mut [u32]) -> Reading
+    requires { ⌜ (at < 2 ^ 63) × (length (now s) ≤ limit) ⌝ }
+    requires { ⌜ length (now row) ≡ width ⌝ }
+    ensures { λ r. ⌜ RowBy (recordAt (now (s .entry)) Modern12 at id) (now (row .entry)) r (now (row .exit)) ⌝ }
+{
+    match where_at(s, Layout::Modern12, at) {
+        Where::Inline => {
+            let words = row_words(inline_record(s, Layout::Modern12, at, id));
+            put_row(row, 0, &words);
+            Reading::Read
+        }
+        Where::Large(place) => {
+            let words = row_words(large_record(s, Layout::Modern12, place, id));
+            put_row(row, 0, &words);
+            Reading::Read
+        }
+        Where::Refused(number) => Reading::Refused(refuse(number, id)),
+    }
+}
+
+pub(crate) fn row(s: &[u8], layout: Layout, at: usize, id: u32, row: &mut [u32]) -> Reading
+    requires { ⌜ (at < 2 ^ 63) × (length (now s) ≤ limit) ⌝ }
+    requires { ⌜ length (now row) ≡ width ⌝ }
+    ensures { λ r. ⌜ RowBy (recordAt (now (s .entry)) layout at id) (now (row .entry)) r (now (row .exit)) ⌝ }
+{
+    match layout {
+        Layout::Legacy16 => legacy_row(s, at, id, row),
+        Layout::Modern12 => modern_row(s, at, id, row),
     }
 }

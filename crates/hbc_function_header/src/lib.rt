@@ -3,11 +3,13 @@ ghost use mathlib.Core.Path.{_≡_};
 ghost use Prim.Native.Nat.{_^_, _≤_, _<_};
 ghost use Rattle.hbc_io.specs.Answer.{asked};
 ghost use Rattle.hbc_io.specs.Outcome.{limit};
-ghost use Rattle.hbc_function_header.specs.Header.{saysFunction, saysReading, headerAt, readFunction, groundIn, rowInto};
-ghost use Rattle.hbc_function_header.specs.Meets.{meetsIn};
+ghost use Rattle.hbc_function_header.specs.Header.{saysFunction, saysReading, saysGrounded, headerAt, readFunction, functionGround, FunctionRow};
+ghost use Rattle.hbc_function_header.specs.Meets.{saysMeeting, functionMeets};
 use hbc_function_record::Layout;
+use hbc_function_record::Link;
 use hbc_function_record::Record;
 use hbc_function_record::WIDTH;
+use hbc_function_record::header_link;
 use hbc_function_record::header_size;
 use hbc_function_record::large_size;
 use hbc_io::LIMIT;
@@ -31,6 +33,19 @@ pub enum Ground {
     None,
     Inline(usize),
     Large(usize, usize),
+}
+
+// The answer for what a function is read from.
+pub enum Grounded {
+    Inline(usize),
+    Large(usize, usize),
+    Refused(Refusal),
+}
+
+// The answer for whether it meets a span.
+pub enum Meeting {
+    Met(bool),
+    Refused(Refusal),
 }
 
 // Where the record itself is: in its own header, in a large one at a place, or nowhere, with the refusal's number.
@@ -77,33 +92,40 @@ pub fn check_function(file: &[u8], layout: Layout, start: usize, id: u32) -> Rea
     find::check(file, layout, header_at(layout, start, id), id)
 }
 
-// Its row into a lent row. A refusal, or lent words that are not one row, change nothing.
-pub fn function_row(file: &[u8], layout: Layout, start: usize, id: u32, row: &mut [u32])
-    ensures { λ _. ⌜ now (row .exit) ≡ rowInto (readFunction (now (file .entry)) layout start id) (now (row .entry)) ⌝ }
+// Its row into a lent row. A refusal changes nothing.
+pub fn function_row(file: &[u8], layout: Layout, start: usize, id: u32, row: &mut [u32]) -> Reading
+    ensures { λ r. ⌜ FunctionRow (now (file .entry)) layout start id (now (row .entry)) r (now (row .exit)) ⌝ }
 {
-    if row.len() != WIDTH {
-        return;
-    }
     if LIMIT < file.len() {
-        return;
+        return Reading::Refused(refuse(1, 0));
     }
     if file.len() < start {
-        return;
+        return Reading::Refused(refuse(2, 0));
     }
-    find::row(file, layout, header_at(layout, start, id), id, row);
+    if row.len() != WIDTH {
+        return Reading::Refused(refuse(4, 0));
+    }
+    find::row(file, layout, header_at(layout, start, id), id, row)
 }
 
 // What it is read from.
-pub fn function_ground(file: &[u8], layout: Layout, start: usize, id: u32) -> Ground
-    ensures { λ g. ⌜ g ≡ groundIn (now (file .entry)) layout start id ⌝ }
+pub fn function_ground(file: &[u8], layout: Layout, start: usize, id: u32) -> Grounded
+    ensures { λ g. ⌜ saysGrounded g ≡ functionGround (now (file .entry)) layout start id ⌝ }
 {
     if LIMIT < file.len() {
-        return Ground::None;
+        return Grounded::Refused(refuse(1, 0));
     }
     if file.len() < start {
-        return Ground::None;
+        return Grounded::Refused(refuse(2, 0));
     }
-    find::ground_of(file, layout, header_at(layout, start, id))
+    let at = header_at(layout, start, id);
+    if file.len() < at + header_size(layout) {
+        return Grounded::Refused(refuse(3, id));
+    }
+    match header_link(file, layout, at) {
+        Link::Own => Grounded::Inline(at),
+        Link::Large(place) => Grounded::Large(at, place),
+    }
 }
 
 // Does it meet the bytes from low up to high?
@@ -114,11 +136,27 @@ pub fn function_meets(
     id: u32,
     low: usize,
     high: usize,
-) -> bool
-    ensures { λ r. ⌜ r ≡ meetsIn (now (file .entry)) layout start id low high ⌝ }
+) -> Meeting
+    ensures { λ r. ⌜ saysMeeting r ≡ functionMeets (now (file .entry)) layout start id low high ⌝ }
 {
-    let ground = function_ground(file, layout, start, id);
+    if LIMIT < file.len() {
+        return Meeting::Refused(refuse(1, 0));
+    }
+    if file.len() < start {
+        return Meeting::Refused(refuse(2, 0));
+    }
+    if high < low {
+        return Meeting::Refused(refuse(10, 0));
+    }
+    if file.len() < high {
+        return Meeting::Refused(refuse(10, 0));
+    }
+    let at = header_at(layout, start, id);
     let own = header_size(layout);
+    if file.len() < at + own {
+        return Meeting::Refused(refuse(3, id));
+    }
+    let ground = find::ground_of(file, layout, at);
     let large = large_size(layout);
-    meets::ground_meets(ground, own, large, low, high)
+    Meeting::Met(meets::ground_meets(ground, own, large, low, high))
 }

@@ -1,7 +1,12 @@
 -- Two answers that say the same are the same: no case hides anything.
-use mathlib.Core.Path.{_≡_, refl}
+use mathlib.Core.Path.{_≡_, refl, sym, _∙_}
+use Prim.Native.Nat.{ℕ}
+use mathlib.Core.List.{List}
+use denote.Ref.{RefT, ptr, now}
 use Rattle.hbc_io.proofs.Reading.{not-both}
 use Rattle.hbc_io.specs.Answers.{saysU8, saysU16, saysU32, saysU64, saysI8, saysI32, saysF64, saysSpan, saysMoved}
+use Rattle.hbc_io.specs.Plain.{IsPart}
+use Rattle.hbc_io.specs.declared.Span.{Span}
 use Rattle.hbc_io.specs.declared.ReadU8.{ReadU8}
 use Rattle.hbc_io.specs.declared.ReadU8.the-variants as u8
 use Rattle.hbc_io.specs.declared.ReadU16.{ReadU16}
@@ -74,3 +79,7 @@ oneMoved (moved.To n) (moved.To m) e = cc
 oneMoved (moved.Refused a n) (moved.Refused b m) e = cc
 oneMoved (moved.To n) (moved.Refused b m) e = absurd (not-both refl e)
 oneMoved (moved.Refused a n) (moved.To m) e = absurd (not-both e refl)
+
+-- and two parts that a span names are one, in their bytes and in memory
+pub onePart : {s : RefT (List ℕ)} {p : Span} {r q : RefT (List ℕ)} → IsPart s p r → IsPart s p q → (now r ≡ now q) × (ptr r ≡ ptr q)
+onePart a b = (a .bytes ∙ sym (b .bytes), a .place ∙ sym (b .place))

@@ -8,7 +8,28 @@ use Rattle.hbc_io.specs.declared.Refusal.{Refusal}
 use Rattle.hbc_io.specs.Answer.{Answer, gives, refuses}
 use Rattle.hbc_io.specs.Lends.{below, choose, written, Tells}
 
--- ---- ways out
+-- ---- ways out of a chain of tests
+
+module _ {O : Type 0} {v : O} where
+  module _ (a b : ℕ) (x o : O) where
+    pub is-below : a < b → v ≡ x → v ≡ below a b x o
+    unfolding below
+    is-below h e = rw (lt-ltb a b h) e
+
+    pub not-below : b ≤ a → v ≡ o → v ≡ below a b x o
+    unfolding below
+    not-below h e = rw (le-ltb a b h) e
+
+  module _ (b : Bool) (x o : O) where
+    pub is-chosen : b ≡ true → v ≡ x → v ≡ choose b x o
+    unfolding choose
+    is-chosen h e = rw h e
+
+    pub not-chosen : b ≡ false → v ≡ o → v ≡ choose b x o
+    unfolding choose
+    not-chosen h e = rw h e
+
+-- ---- ways out of a call
 
 module _ {O A R W : Type 0} {told : O → Answer A} {of : R → O} {new before : W} {r : R} where
   -- refused: the words are as they were

@@ -1,5 +1,5 @@
 -- docs/FORMAT.md, sections 1.3 and 2.2: what a read finds, whatever the type of its value, and the words that every read is described in.
-use Prim.Native.Nat.{ℕ, suc, _-_, _^_}
+use Prim.Native.Nat.{ℕ, suc, _-_, _%_, _^_}
 use mathlib.Core.List.{List}
 use mathlib.Core.Bool.{cond}
 use lib.IntN.{ℤ, pos, negsuc}
@@ -44,3 +44,8 @@ andThen (refused r n) f = refused r n
 -- the number that k bits stand for in two's complement
 abbrev pub twos : ℕ → ℕ → ℤ
 twos k v = cond (ltb v (2 ^ (k - 1))) (pos v) (negsuc (2 ^ k - suc v))
+
+-- and the low k bits of a number in two's complement: the number modulo 2^k
+abbrev pub lowBits : ℕ → ℤ → ℕ
+lowBits k (pos n) = n % 2 ^ k
+lowBits k (negsuc n) = 2 ^ k - suc (n % 2 ^ k)

@@ -1,9 +1,11 @@
 -- docs/FORMAT.md, section 2.2: plain reads, seek, align and spans, with the refusals in their order. A refused one leaves the cursor.
 use Prim.Native.Nat.{ℕ, _+_, _-_, _%_}
-use mathlib.Core.List.{List, []}
+use mathlib.Core.Path.{_≡_}
+use mathlib.Core.List.{List}
 use mathlib.Core.Bool.{cond}
 use lib.ListN.{length, take, drop}
 use lib.Dec.{ltb, eqb}
+use denote.Ref.{RefT, ptr, now}
 use Rattle.hbc_bits.specs.Bits.{leAt}
 use Rattle.hbc_io.specs.Outcome.{Outcome, got, refused, cursorAt, refusal, limit, left}
 use Rattle.hbc_io.specs.declared.Cursor.{Cursor}
@@ -40,10 +42,18 @@ spanOf start len = record { start = start; len = len }
 unfoldable pub bytesAt : ℕ → List ℕ → Cursor → Outcome Span
 bytesAt n s c = started s c (needing n s c (got (spanOf (c .at) n) (cursorAt (c .at + n))))
 
+-- the span if it lies within the input, else the empty beginning
+abbrev pub spanIn : List ℕ → Span → Span
+spanIn s p = cond (ltb (length s) (p .start)) (spanOf 0 0) (cond (ltb (length s - p .start) (p .len)) (spanOf 0 0) p)
+
 -- the bytes that a span names, none where it leaves the input
 abbrev pub partOf : List ℕ → Span → List ℕ
-partOf s p =
-    cond (ltb (length s) (p .start)) [] (cond (ltb (length s - p .start) (p .len)) [] (take (p .len) (drop (p .start) s)))
+partOf s p = take (spanIn s p .len) (drop (spanIn s p .start) s)
+
+-- r is the part of the input s that a span names, itself and not one with the same bytes: a pointer is a block of memory and a place in it
+pub record IsPart (s : RefT (List ℕ)) (p : Span) (r : RefT (List ℕ)) : Type 0 where
+  pub bytes : now r ≡ partOf (now s) p
+  pub place : ptr r ≡ (ptr s .0, ptr s .1 + spanIn (now s) p .start)
 
 -- the cursor is set to a place; where it stood before is not looked at
 unfoldable pub seekTo : List ℕ → Cursor → ℕ → Outcome (Unit {0})

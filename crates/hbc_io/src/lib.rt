@@ -1,18 +1,19 @@
 // A cursor over bytes that the caller lends, after io.rs: little-endian reads, seek, align, and spans of bytes.
-// Every call tests what it needs: an input longer than LIMIT, then a cursor past the end, then the bytes themselves.
+// Every call at a cursor tests what it needs: an input longer than LIMIT, then a cursor past the end, then the bytes themselves.
+// `remaining`, `part` and the peeks refuse nothing: none left, the empty part and zeros are their answers there.
 ghost use mathlib.Core.Path.{_≡_};
 ghost use Prim.Native.Nat.{_+_, _-_, _≤_, _<_};
 ghost use lib.ListN.{length};
 ghost use lib.Ieee.{ofBits, binary64};
 ghost use Rattle.hbc_bits.specs.Bits.{leAt};
 ghost use Rattle.hbc_io.specs.Outcome.{refusalAt, cursorAt, left, valued, twos};
-ghost use Rattle.hbc_io.specs.Plain.{plainAt, wordAt, seekTo, alignTo, bytesAt, partOf};
+ghost use Rattle.hbc_io.specs.Plain.{plainAt, wordAt, seekTo, alignTo, bytesAt, IsPart};
 ghost use Rattle.hbc_io.specs.Answers.{saysU8, saysU16, saysU32, saysU64, saysI8, saysI32, saysF64, saysMoved, saysSpan};
 
 // The longest input that is read, in bytes.
 pub const LIMIT: usize = 1073741824;
 
-// A position in the input. It may stand past the end; each call but a seek refuses that.
+// A position in the input. It may stand past the end; each call that reads or aligns there refuses that.
 pub struct Cursor {
     pub at: usize,
 }
@@ -327,9 +328,9 @@ pub fn read_bytes(s: &[u8], c: Cursor, len: usize) -> ReadSpan
     ReadSpan::Got(Span { start: at, len }, Cursor { at: at + len })
 }
 
-// The part of the input that a span names, empty where it leaves the input.
+// The part of the input that a span names; where it leaves the input, its empty beginning.
 pub fn part(s: &[u8], p: Span) -> &[u8]
-    ensures { λ r. ⌜ now r ≡ partOf (now (s .entry)) p ⌝ }
+    ensures { λ r. ⌜ IsPart (s .entry) p r ⌝ }
 {
     let start = p.start;
     let len = p.len;

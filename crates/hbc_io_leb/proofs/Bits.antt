@@ -11,6 +11,7 @@ use mir.Syntax.{w64}
 use mir.Val.{SFits, Fits, toZ, ofZ}
 use mir.ValLaws.{toZ-pos, toZ-ofZ}
 use Rattle.hbc_io_leb.specs.Signed.{bitsOf}
+use Rattle.hbc_io_leb.proofs.Signed.{bits-pos, bits-neg}
 
 pub record Up (v y : ℤ) : Type 0 where
   pub n : ℕ
@@ -25,13 +26,11 @@ pub record Down (v y : ℤ) : Type 0 where
   pub small : n < 2 ^ 63
 
 up-of : (v : ℤ) → SFits w64 v → leZ (pos 0) v ≡ true → Up v v
-unfolding bitsOf
-up-of (pos n) h e = record { n = n; is = refl; bits = refl; small = h .sfits }
+up-of (pos n) h e = record { n = n; is = refl; bits = bits-pos n h; small = h .sfits }
 up-of (negsuc n) h e = let z : _≡_ {A = ℕ} 0 1 = cc in absurd (omega arith)
 
 down-of : (v : ℤ) → SFits w64 v → leZ (pos 0) v ≡ false → Down v v
-unfolding bitsOf
-down-of (negsuc n) h e = record { n = n; is = refl; bits = refl; small = h .sfits }
+down-of (negsuc n) h e = record { n = n; is = refl; bits = bits-neg n h; small = h .sfits }
 down-of (pos n) h e = absurd (omega (arith, leb-false 0 n e))
 
 pub is-up : (v : ℤ) → SFits w64 v → leZ (pos 0) (toZ w64 (ofZ w64 v)) ≡ true → Up v (toZ w64 (ofZ w64 v))

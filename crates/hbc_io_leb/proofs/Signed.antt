@@ -4,6 +4,7 @@ use mathlib.Core.Bool.{Bool, true, false, cond}
 use mathlib.Core.List.{List}
 use Prim.Native.Nat.{ℕ, suc, _-_, _%_, _^_, _≤_, _<_}
 use native.Mathlib.Omega.{arith}
+use native.Mathlib.Nat.{mod-eq-of-lt}
 use borrow.Author.Tests.{ltb-true, ltb-false, leb-true, lt-leb}
 use lib.Dec.{ltb, leb}
 use lib.IntN.{ℤ, pos, negsuc}
@@ -36,20 +37,29 @@ sleb-fits s c z n e =
     let d : z .value ≡ low64 (dwarfSigned (w .0)) = ap (λ (x : Sleb). x .value) (w .2) in
     rw d (low-fits (dwarfSigned (w .0)))
 
+-- a number from 0 up is its own bits; one below 0 lacks as much of 2^64
+pub bits-pos : (n : ℕ) → SFits w64 (pos n) → bitsOf (pos n) ≡ n
+unfolding bitsOf
+bits-pos n h = mod-eq-of-lt (omega (arith, h .sfits))
+
+pub bits-neg : (n : ℕ) → SFits w64 (negsuc n) → bitsOf (negsuc n) ≡ 2 ^ 64 - suc n
+unfolding bitsOf
+bits-neg n h = ap (λ (k : ℕ). 2 ^ 64 - suc k) (mod-eq-of-lt (omega (arith, h .sfits)))
+
 pub bits-up-to : (m : ℕ) (z : ℤ) → SFits w64 z → m < 2 ^ 63 → leb (bitsOf z) m ≡ upTo m z
-unfolding bitsOf upTo
-bits-up-to m (pos n) h k = refl
-bits-up-to m (negsuc n) h k = lt-leb (2 ^ 64 - suc n) m (omega (arith, h .sfits))
+unfolding upTo
+bits-up-to m (pos n) h k = rw (bits-pos n h)
+bits-up-to m (negsuc n) h k = rw (bits-neg n h) (lt-leb (2 ^ 64 - suc n) m (omega (arith, h .sfits)))
 
-pub bits-low : (z : ℤ) → SFits w64 z → bitsOf z % 2 ^ 32 ≡ low32 z
+pub bits-low : (z : ℤ) → bitsOf z % 2 ^ 32 ≡ low32 z
 unfolding bitsOf low32
-bits-low (pos n) h = refl
-bits-low (negsuc n) h = omega (arith, h .sfits)
+bits-low (pos n) = omega arith
+bits-low (negsuc n) = omega arith
 
-pub natural-bits : (m : ℕ) (z : ℤ) → upTo m z ≡ true → natural z ≡ bitsOf z
-unfolding bitsOf upTo
-natural-bits m (pos n) h = refl
-natural-bits m (negsuc n) h = let z : _≡_ {A = ℕ} 0 1 = cc in absurd (omega arith)
+pub natural-bits : (m : ℕ) (z : ℤ) → SFits w64 z → upTo m z ≡ true → natural z ≡ bitsOf z
+unfolding upTo
+natural-bits m (pos n) h e = rw (bits-pos n h)
+natural-bits m (negsuc n) h e = let z : _≡_ {A = ℕ} 0 1 = cc in absurd (omega arith)
 
 pub natural-le : (m : ℕ) (z : ℤ) → upTo m z ≡ true → natural z ≤ m
 unfolding upTo

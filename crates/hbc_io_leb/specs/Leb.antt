@@ -4,9 +4,9 @@ use Prim.Native.Nat.{ℕ, suc, _+_, _-_, _*_, _%_, _^_}
 use mathlib.Core.List.{List, [], _∷_}
 use mathlib.Core.Bool.{cond}
 use lib.ListN.{length, take, drop}
-use lib.IntN.{ℤ, pos, negsuc}
+use lib.IntN.{ℤ}
 use lib.Dec.{ltb, leb}
-use Rattle.hbc_io.specs.Outcome.{Outcome, got, refused, cursorAt, refusal, twos}
+use Rattle.hbc_io.specs.Outcome.{Outcome, got, refused, cursorAt, refusal, twos, lowBits}
 use Rattle.hbc_io.specs.Plain.{started}
 use Rattle.hbc_io.specs.declared.Cursor.{Cursor}
 
@@ -47,8 +47,7 @@ unsignedOf bs = dwarfUnsigned bs % 2 ^ 64
 
 -- the low 64 bits of a signed number, again in two's complement
 abbrev pub low64 : ℤ → ℤ
-low64 (pos n) = twos 64 (n % 2 ^ 64)
-low64 (negsuc n) = twos 64 (2 ^ 64 - suc (n % 2 ^ 64))
+low64 z = twos 64 (lowBits 64 z)
 
 abbrev pub signedOf : List ℕ → ℤ
 signedOf bs = low64 (dwarfSigned bs)

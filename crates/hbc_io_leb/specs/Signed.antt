@@ -1,12 +1,10 @@
 -- docs/FORMAT.md, section 2.3: signed LEB128 numbers: tests of one, and the 64 bits that hold it.
-use Prim.Native.Nat.{ℕ, suc, _-_, _%_, _^_}
+use Prim.Native.Nat.{ℕ}
 use mathlib.Core.List.{List}
 use mathlib.Core.Bool.{Bool, false}
 use lib.IntN.{ℤ, pos, negsuc}
 use lib.Dec.{ltb, leb}
-use mir.Val.{ofZ}
-use mir.Syntax.{w64}
-use Rattle.hbc_io.specs.Outcome.{Outcome, got, refused, valued}
+use Rattle.hbc_io.specs.Outcome.{Outcome, got, refused, valued, lowBits}
 use Rattle.hbc_io.specs.declared.Cursor.{Cursor}
 use Rattle.hbc_io_leb.specs.Leb.{lebBytes}
 use Rattle.hbc_io_leb.specs.Answers.{slebOf}
@@ -35,13 +33,11 @@ natural (negsuc n) = 0
 
 -- the low 32 bits
 unfoldable pub low32 : ℤ → ℕ
-low32 (pos n) = n % 2 ^ 32
-low32 (negsuc n) = 2 ^ 32 - suc (n % 2 ^ 32)
+low32 z = lowBits 32 z
 
--- ---- the same number as 64 bits, which the code tests
-
+-- the 64 bits that hold it
 unfoldable pub bitsOf : ℤ → ℕ
-bitsOf z = ofZ w64 z
+bitsOf z = lowBits 64 z
 
 abbrev pub heldOf : Sleb → Held
 heldOf v = record { bits = bitsOf (v .value) }

@@ -1,9 +1,11 @@
 // The listing: its job, which is tagged fields, each a tag of one byte, a length of two, and so many bytes; and its lines, in show.rt.
 ghost use mathlib.Core.Path.{_≡_};
 ghost use Prim.Native.Nat.{_^_, _<_};
-ghost use Rattle.hbc_job.specs.Job.{tagged, jobOf};
+ghost use Rattle.hbc_job.specs.Job.{tagged, malformed, saysJob, jobOf};
 use hbc_function_record::Layout;
 use hbc_io::LIMIT;
+use hbc_io::Refusal;
+use hbc_io::refuse;
 use hbc_io::u8_at;
 use hbc_io::u16_at;
 use hbc_io::u32_at;
@@ -17,9 +19,12 @@ pub struct Parts {
     pub count: u32,
 }
 
+// How many functions are listed at most.
+pub const LISTED: usize = 512;
+
 pub enum Job {
     Of(Parts),
-    Malformed,
+    Refused(Refusal),
 }
 
 pub mod show;
@@ -35,27 +40,33 @@ fn is_tagged(s: &[u8], at: usize, tag: u8, len: usize) -> bool
     false
 }
 
+fn malformed() -> Job
+    ensures { λ r. ⌜ saysJob r ≡ malformed ⌝ }
+{
+    Job::Refused(refuse(12, 0))
+}
+
 // The job that s holds.
 pub fn parse_job(s: &[u8]) -> Job
-    ensures { λ r. ⌜ r ≡ jobOf (now (s .entry)) ⌝ }
+    ensures { λ r. ⌜ saysJob r ≡ jobOf (now (s .entry)) ⌝ }
 {
     if LIMIT < s.len() {
-        return Job::Malformed;
+        return malformed();
     }
     if s.len() < FILE {
-        return Job::Malformed;
+        return malformed();
     }
     if !is_tagged(s, 0, 1, 1) {
-        return Job::Malformed;
+        return malformed();
     }
     if !is_tagged(s, 4, 2, 4) {
-        return Job::Malformed;
+        return malformed();
     }
     if !is_tagged(s, 11, 3, 4) {
-        return Job::Malformed;
+        return malformed();
     }
     if !is_tagged(s, 18, 4, s.len() - FILE) {
-        return Job::Malformed;
+        return malformed();
     }
     let start = u32_at(s, 7);
     let count = u32_at(s, 14);
@@ -74,5 +85,5 @@ pub fn parse_job(s: &[u8]) -> Job
             count,
         });
     }
-    Job::Malformed
+    malformed()
 }

@@ -1,8 +1,9 @@
 // The lines of a listing, on standard output: one for each function, or one alone for a refusal. What is written no contract can say.
 ghost use mathlib.Core.Path.{_≡_};
-ghost use Rattle.hbc_job.specs.Job.{jobOf};
+ghost use Rattle.hbc_job.specs.Job.{saysJob, listedOf, listing};
 use crate::FILE;
 use crate::Job;
+use crate::LISTED;
 use crate::Parts;
 use crate::parse_job;
 use hbc_function_header::Reading;
@@ -17,9 +18,6 @@ use hbc_function_record::WIDTH;
 use hbc_io::Refusal;
 use hbc_rows::word_of;
 use libc::STDOUT_FILENO;
-
-// How many functions are listed at most.
-const LISTED: usize = 512;
 
 fn refused(r: Refusal) {
     io::write_all(STDOUT_FILENO, b"refused ");
@@ -47,7 +45,8 @@ fn field(name: &[u8], value: u32) {
     io::print_decimal(STDOUT_FILENO, value as u64);
 }
 
-fn row(rows: &[u32], id: u32) {
+// Whether the line could be ended.
+fn row(rows: &[u32], id: u32) -> bool {
     let at = (id as usize) * WIDTH;
     io::print_decimal(STDOUT_FILENO, id as u64);
     field(b" offset ", word_of(rows, at + ROW_OFFSET));
@@ -56,18 +55,22 @@ fn row(rows: &[u32], id: u32) {
     field(b" info ", word_of(rows, at + ROW_INFO_OFFSET));
     field(b" frame ", word_of(rows, at + ROW_FRAME_SIZE));
     field(b" flags ", word_of(rows, at + ROW_FLAGS));
-    io::write_all(STDOUT_FILENO, b"\n");
+    io::write_all(STDOUT_FILENO, b"\n")
 }
 
 fn rows_of(rows: &[u32], count: u32) {
     let mut id: u32 = 0;
     while id < count {
-        row(rows, id);
+        if !row(rows, id) {
+            return;
+        }
         id += 1;
     }
 }
 
-fn list_file(file: &[u8], job: Parts) {
+fn list_file(file: &[u8], job: Parts) -> Job
+    ensures { λ r. ⌜ saysJob r ≡ listedOf (now (file .entry)) job ⌝ }
+{
     let layout = job.layout;
     let count = job.count;
     let mut rows = [0u32; LISTED * WIDTH];
@@ -75,23 +78,24 @@ fn list_file(file: &[u8], job: Parts) {
         Reading::Read => {
             heading(layout, count);
             rows_of(&rows, count);
+            Job::Of(job)
         }
-        Reading::Refused(r) => refused(r),
+        Reading::Refused(r) => {
+            refused(r);
+            Job::Refused(r)
+        }
     }
 }
 
-// Lists a job's functions, at most LISTED of them, and answers the job as it was read.
+// Lists a job's functions, at most LISTED of them, and answers the job, or the refusal that is shown.
 pub fn list(s: &[u8]) -> Job
-    ensures { λ r. ⌜ r ≡ jobOf (now (s .entry)) ⌝ }
+    ensures { λ r. ⌜ saysJob r ≡ listing (now (s .entry)) ⌝ }
 {
-    let job = parse_job(s);
-    match job {
-        Job::Of(p) => {
-            if FILE <= s.len() {
-                list_file(&s[FILE..], p);
-            }
+    match parse_job(s) {
+        Job::Of(p) => list_file(&s[FILE..], p),
+        Job::Refused(r) => {
+            refused(r);
+            Job::Refused(r)
         }
-        Job::Malformed => refused(hbc_io::refuse(12, 0)),
     }
-    job
 }

@@ -14,6 +14,7 @@ use Rattle.hbc_io.specs.Lends.{below, choose}
 use Rattle.hbc_io.specs.Plain.{wordAt, alignTo, alignedUp}
 use Rattle.hbc_io.specs.declared.Cursor.{Cursor}
 use Rattle.hbc_io.specs.declared.Refusal.{Refusal}
+use Rattle.hbc_io.proofs.Exits.{not-below}
 use Rattle.hbc_io.proofs.Reading.{not-both}
 use Rattle.hbc_io.proofs.Plains.{word-there}
 use Rattle.hbc_rows.specs.Rows.{putRow, putRows}
@@ -26,27 +27,6 @@ use Rattle.hbc_parsing_handlers.specs.declared.Why.the-variants as w
 use Rattle.hbc_parsing_handlers.specs.Why.{table, most, handlerBytes, counted, tableAt, whyAt, why, shownBy, shown}
 use Rattle.hbc_parsing_handlers.specs.Handlers.{handlerWords, handlerWidth, total, handlerRow, putHandlers}
 use Rattle.hbc_parsing_handlers.specs.Private.{Found}
-
--- ---- ways out of a chain of tests
-
-module _ {O : Type 0} {v : O} where
-  module _ (a b : ℕ) (x o : O) where
-    pub is-below : a < b → v ≡ x → v ≡ below a b x o
-    unfolding below
-    is-below h e = rw (lt-ltb a b h) e
-
-    pub not-below : b ≤ a → v ≡ o → v ≡ below a b x o
-    unfolding below
-    not-below h e = rw (le-ltb a b h) e
-
-  module _ (b : Bool) (x o : O) where
-    pub is-chosen : b ≡ true → v ≡ x → v ≡ choose b x o
-    unfolding choose
-    is-chosen h e = rw h e
-
-    pub not-chosen : b ≡ false → v ≡ o → v ≡ choose b x o
-    unfolding choose
-    not-chosen h e = rw h e
 
 -- a count that was read where four bytes are left
 pub table-is : (s : List ℕ) (at : ℕ) {n : ℕ} {v : Why} → at + 4 ≤ length s → n ≡ wordAt 4 s at → v ≡ counted s at n → v ≡ tableAt s at

@@ -1,7 +1,7 @@
 // A reader that keeps its bytes with a position, after io.rs's ByteReader: thin calls over the cursor by value.
 ghost use mathlib.Core.Path.{_≡_};
 ghost use Rattle.hbc_io.specs.Outcome.{left, cursorAt, valued, andThen};
-ghost use Rattle.hbc_io.specs.Plain.{plainAt, seekTo, bytesAt, partOf};
+ghost use Rattle.hbc_io.specs.Plain.{plainAt, seekTo, bytesAt, IsPart};
 ghost use Rattle.hbc_io.specs.Answers.{saysU32, saysMoved, saysSpan};
 ghost use Rattle.hbc_io_leb.specs.Leb.{lebBytes};
 ghost use Rattle.hbc_io_leb.specs.Answers.{ulebOf, saysUleb};
@@ -138,7 +138,7 @@ impl<'a> ByteReader<'a> {
 
     // The bytes that a span names, as a part of the lent ones, empty where it leaves them.
     pub fn part(&self, span: Span) -> &'a [u8]
-        ensures { λ r. ⌜ now r ≡ partOf (bytesOf (now (self .entry))) span ⌝ }
+        ensures { λ r. ⌜ IsPart (now (self .entry) .«data») span r ⌝ }
     {
         hbc_io::part(self.data, span)
     }

@@ -8,12 +8,12 @@ use lib.ListN.{length, getD, take, drop}
 use lib.Dec.{ltb}
 use lib.Seq.{getD-take, getD-drop}
 use borrow.Author.Tests.{lt-ltb, le-ltb, ltb-false}
-use Rattle.hbc_io.specs.Plain.{partOf, spanOf}
+use Rattle.hbc_io.specs.Plain.{spanOf, spanIn, partOf}
 use Rattle.hbc_io.specs.declared.Span.{Span}
 use Rattle.hbc_rows.specs.Rows.{entryAt, rows, rowAt}
 use Rattle.hbc_rows.proofs.Laws.{test-eq, test-ne}
 use Rattle.hbc_table_strings.specs.Row.{stringWidth}
-use Rattle.hbc_table_bytes.specs.StringBytes.{spanAt, spanIn, stringSpan, stringBytes}
+use Rattle.hbc_table_bytes.specs.StringBytes.{spanAt, stringSpan, stringBytes}
 
 -- ---- the span that a row says, by the words read
 

@@ -1,10 +1,10 @@
 -- docs/FORMAT.md, section 4.6: one string's bytes, by its row. The marks are not read.
-use Prim.Native.Nat.{ℕ, _-_}
+use Prim.Native.Nat.{ℕ}
 use mathlib.Core.List.{List}
 use mathlib.Core.Bool.{cond}
-use lib.ListN.{length}
 use lib.Dec.{ltb, eqb}
-use Rattle.hbc_io.specs.Plain.{partOf, spanOf}
+use denote.Ref.{RefT}
+use Rattle.hbc_io.specs.Plain.{spanOf, spanIn, partOf, IsPart}
 use Rattle.hbc_io.specs.declared.Span.{Span}
 use Rattle.hbc_rows.specs.Rows.{rows, rowAt}
 use Rattle.hbc_table_strings.specs.declared.row.StringRow.{StringRow}
@@ -18,15 +18,14 @@ spanOfRow r = cond (eqb (r .invalid) 0) (spanOf (r .start) (r .bytes)) (spanOf 0
 unfoldable pub spanAt : List ℕ → ℕ → Span
 spanAt t k = cond (ltb k (rows stringWidth t)) (spanOfRow (stringRow (rowAt stringWidth t k))) (spanOf 0 0)
 
--- that part of the storage itself, empty if it leaves the storage
+-- the bytes there, none if it leaves the storage
 unfoldable pub stringBytes : List ℕ → List ℕ → ℕ → List ℕ
 stringBytes s t k = partOf s (spanAt t k)
 
--- the span if it lies within the storage, else the empty beginning
-abbrev pub spanIn : List ℕ → Span → Span
-spanIn s p =
-    cond (ltb (length s) (p .start)) (spanOf 0 0) (cond (ltb (length s - p .start) (p .len)) (spanOf 0 0) p)
+-- the promise: that part of the storage itself
+abbrev pub StringBytes : RefT (List ℕ) → List ℕ → ℕ → RefT (List ℕ) → Type 0
+StringBytes s t k = IsPart s (spanAt t k)
 
--- where the part is
+-- where the part is; a span that leaves the storage is the empty beginning
 unfoldable pub stringSpan : List ℕ → List ℕ → ℕ → Span
 stringSpan s t k = spanIn s (spanAt t k)

@@ -1,6 +1,6 @@
 // One string's bytes: the part of the storage that its row names.
 ghost use mathlib.Core.Path.{_≡_};
-ghost use Rattle.hbc_table_bytes.specs.StringBytes.{spanAt, stringSpan, stringBytes};
+ghost use Rattle.hbc_table_bytes.specs.StringBytes.{spanAt, stringSpan, StringBytes};
 use hbc_io::Span;
 use hbc_io::part;
 use hbc_rows::word_of;
@@ -41,7 +41,7 @@ pub fn string_span(storage: &[u8], rows: &[u32], index: usize) -> Span
 
 // The string's bytes themselves.
 pub fn string_bytes<'s, 'r>(storage: &'s [u8], rows: &'r [u32], index: usize) -> &'s [u8]
-    ensures { λ r. ⌜ now r ≡ stringBytes (now (storage .entry)) (now (rows .entry)) index ⌝ }
+    ensures { λ r. ⌜ StringBytes (storage .entry) (now (rows .entry)) index r ⌝ }
 {
     part(storage, span_at(rows, index))
 }

@@ -8,6 +8,8 @@ mod buffer;
 mod callees;
 #[cfg(published)]
 mod debug;
+#[cfg(any(published, test))]
+mod floors;
 #[cfg(published)]
 mod function;
 #[cfg(published)]

@@ -1,13 +1,17 @@
 //! What every layer's benchmark shares: the command line and the table.
 
+use std::cell::{Cell, RefCell};
 use std::hint::black_box;
 use std::process::ExitCode;
 
 use harness::{count, processor_time};
 
-const USAGE: &str = "usage: bench [--rounds N] [--full] [LAYER..]
+use crate::floors::{self, Figure};
+
+const USAGE: &str = "usage: bench [--rounds N] [--full] [--floors | --figures] [LAYER..]
 Times every layer, or those named; N rounds each (default 5), of which the best counts. --full adds sizes that take
-some minutes.";
+some minutes. --floors prints at last each figure, a ratio to the Rust, that is below its floor in docs/PERFORMANCE.md,
+and then ends with status 1; --figures prints every figure as a line of that table.";
 
 /// How many things a side read, and a sum over all their values.
 #[derive(Clone, Copy, PartialEq, Eq, Debug)]
@@ -34,6 +38,10 @@ pub struct Bench {
     pub rounds: u32,
     /// Whether sizes that take minutes are asked for.
     pub full: bool,
+    /// The layer that is timed now.
+    layer: Cell<&'static str>,
+    /// Every ratio to the Rust so far.
+    figures: RefCell<Vec<Figure>>,
 }
 
 /// The heading of a table of reads, one call each.
@@ -51,6 +59,14 @@ pub fn heading() {
 }
 
 impl Bench {
+    /// A ratio to the Rust, to be held against its floor.
+    pub fn figure(&self, name: String, ratio: f64) {
+        let layer = self.layer.get().to_string();
+        self.figures
+            .borrow_mut()
+            .push(Figure { layer, name, ratio });
+    }
+
     /// Times the sides in turn, the best of all rounds each, and prints a line of the table.
     pub fn row(&self, name: &str, bytes: &[u8], sides: Sides) {
         let sides = [sides.ours, sides.called, sides.inlined];
@@ -73,6 +89,7 @@ impl Bench {
         }
         let reads = tallies[0].reads;
         let [ours, called, inlined] = best.map(|time| time / reads as f64);
+        self.figure(format!("{name}, {} MiB", bytes.len() >> 20), called / ours);
         println!(
             "{name:<28} {:>4} MiB {:>12} {ours:>9.2} {called:>9.2} {inlined:>9.2} {:>9.2} {:>9.2}",
             bytes.len() >> 20,
@@ -92,8 +109,10 @@ pub fn main(layers: &[Layer]) -> ExitCode {
     let mut bench = Bench {
         rounds: 5,
         full: false,
+        layer: Cell::new(""),
+        figures: RefCell::new(Vec::new()),
     };
-    let mut names = Vec::new();
+    let (mut names, mut floors, mut listed) = (Vec::new(), None, false);
     let mut words = std::env::args().skip(1);
     while let Some(word) = words.next() {
         let known = layers.iter().any(|(name, _)| *name == word);
@@ -103,6 +122,14 @@ pub fn main(layers: &[Layer]) -> ExitCode {
                 _ => return bad_usage(),
             },
             "--full" => bench.full = true,
+            "--figures" => listed = true,
+            "--floors" => match floors::document().and_then(|text| floors::parse(&text)) {
+                Ok(found) => floors = Some(found),
+                Err(why) => {
+                    eprintln!("bench: {why}");
+                    return ExitCode::from(2);
+                }
+            },
             _ if known => names.push(word),
             _ => return bad_usage(),
         }
@@ -110,10 +137,33 @@ pub fn main(layers: &[Layer]) -> ExitCode {
     println!("Nanoseconds of processor time, best of {} rounds, and the Rust's time over ours: above 1, ours is faster.", bench.rounds);
     for (name, rows) in layers {
         if names.is_empty() || names.iter().any(|chosen| chosen == name) {
+            bench.layer.set(name);
             rows(&bench);
         }
     }
-    ExitCode::SUCCESS
+    let figures = bench.figures.into_inner();
+    if listed {
+        println!();
+        figures.iter().for_each(|figure| println!("{figure}"));
+    }
+    floors.map_or(ExitCode::SUCCESS, |floors| held(&floors, &figures))
+}
+
+/// Prints what is below its floor.
+fn held(floors: &[Figure], figures: &[Figure]) -> ExitCode {
+    let below = floors::below(floors, figures);
+    println!();
+    below.iter().for_each(|line| println!("{line}"));
+    println!(
+        "floors: {} figures, {} of them without a floor, {} wrong",
+        figures.len(),
+        floors::without(floors, figures),
+        below.len()
+    );
+    match below.is_empty() {
+        true => ExitCode::SUCCESS,
+        false => ExitCode::FAILURE,
+    }
 }
 
 fn bad_usage() -> ExitCode {

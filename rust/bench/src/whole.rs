@@ -55,6 +55,7 @@ impl Whole {
         }
         let [ours, rust] = best.map(|time| time / self.items as f64);
         let ratio = rust / ours;
+        bench.figure(format!("{name}, {}", count(self.items as u64)), ratio);
         let digits = if ratio < 0.1 { 5 } else { 2 };
         println!(
             "{name:<34} {:>10} {:>12} {ours:>10.3} {rust:>10.3} {ratio:>9.digits$}",

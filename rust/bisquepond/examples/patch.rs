@@ -4,9 +4,10 @@
 //!     cargo run --example patch          # a sample, made in memory
 //!
 //! FILE's table of COUNT headers begins at byte START; LAYOUT is legacy16 or modern12. The bytes are put at byte OFFSET
-//! of the file in memory; the file itself is not written.
+//! of the file in memory; the file itself is not written. Numbers may be written 0x.. .
 
 use std::error::Error;
+use std::fmt::Display;
 use std::process::ExitCode;
 
 use bisquepond::Layout;
@@ -14,10 +15,11 @@ use bisquepond::function::{self, FunctionTable};
 
 fn main() -> ExitCode {
     let words: Vec<String> = std::env::args().skip(1).collect();
-    let done = match &words[..] {
+    let words: Vec<&str> = words.iter().map(String::as_str).collect();
+    let done = match words[..] {
         [] => sample(),
         [file, layout, start, count, offset, bytes] => {
-            named(file, layout, start, count, offset, bytes)
+            named(file, layout, [start, count, offset], bytes)
         }
         _ => Err("usage: patch [FILE LAYOUT START COUNT OFFSET HEXBYTES]".into()),
     };
@@ -31,22 +33,36 @@ fn main() -> ExitCode {
 }
 
 fn named(
-    file: &str,
+    path: &str,
     layout: &str,
-    start: &str,
-    count: &str,
-    offset: &str,
+    [start, count, offset]: [&str; 3],
     bytes: &str,
 ) -> Result<(), Box<dyn Error>> {
-    let mut file = std::fs::read(file)?;
-    let layout = match layout {
-        "legacy16" => Layout::Legacy16,
-        "modern12" => Layout::Modern12,
-        _ => return Err(format!("no layout {layout}: legacy16 or modern12").into()),
-    };
-    let mut table = function::read_functions(&file, layout, start.parse()?, count.parse()?)?;
+    let layout: Layout = layout.parse().map_err(about("LAYOUT", layout))?;
+    let (start, offset) = (number("START", start)?, number("OFFSET", offset)?);
+    let count = number("COUNT", count)?;
+    let bytes = unhex(bytes).map_err(about("HEXBYTES", bytes))?;
+    let mut file = std::fs::read(path).map_err(about("FILE", path))?;
+    let read = function::read_functions(&file, layout, start, count);
+    let mut table = read.map_err(about("FILE", path))?;
     println!("{} functions read", table.len());
-    patch(&mut file, &mut table, offset.parse()?, &unhex(bytes)?)
+    let patched = patch(&mut file, &mut table, offset, &bytes);
+    Ok(patched.map_err(about("FILE", path))?)
+}
+
+/// An error with the argument that it is about.
+fn about<E: Display>(name: &str, word: &str) -> impl Fn(E) -> String {
+    move |why| format!("{name} {word}: {why}")
+}
+
+/// A number in decimal, or in hexadecimal after 0x.
+fn number<N: TryFrom<u64>>(name: &str, word: &str) -> Result<N, String> {
+    let (digits, radix) = match word.strip_prefix("0x") {
+        Some(digits) => (digits, 16),
+        None => (word, 10),
+    };
+    let number = u64::from_str_radix(digits, radix).map_err(about(name, word))?;
+    N::try_from(number).map_err(|_| format!("{name} {word}: too large"))
 }
 
 /// Puts the bytes there, refreshes the table, and prints which rows changed.
@@ -56,20 +72,25 @@ fn patch(
     offset: usize,
     bytes: &[u8],
 ) -> Result<(), Box<dyn Error>> {
-    let span = offset..offset.saturating_add(bytes.len());
+    let (len, span) = (file.len(), offset..offset.saturating_add(bytes.len()));
     let Some(place) = file.get_mut(span.clone()) else {
-        return Err("the bytes do not fit into the file".into());
+        return Err(format!(
+            "{} bytes at byte {offset} do not fit into its {len} bytes",
+            bytes.len()
+        )
+        .into());
     };
     println!("\nat byte {offset}: {} -> {}", hex(place), hex(bytes));
     place.copy_from_slice(bytes);
 
     let before = table.to_vec();
     let again = table.refresh(file, span)?;
-    println!("{again} of {} rows read again", table.len());
-    for (old, new) in before.iter().zip(table.iter()) {
+    println!("{} of {} rows read again", again.len(), table.len());
+    for id in again {
+        let (old, new) = (&before[id as usize], &table[id as usize]);
         let fields = old.fields().zip(new.fields());
         for ((name, old), (_, now)) in fields.filter(|(old, now)| old != now) {
-            println!("  function {}: {name} {old} -> {now}", new.id());
+            println!("  function {id}: {name} {old} -> {now}");
         }
     }
 
@@ -107,7 +128,7 @@ fn sample() -> Result<(), Box<dyn Error>> {
         "a sample of {} bytes, 3 functions from byte {START}, the large header of function 1 at byte {LARGE}:",
         file.len()
     );
-    for row in table.iter() {
+    for row in &table {
         println!(
             "  function {}: offset {} size {} name {} frame {} flags {}",
             row.id(),
@@ -125,11 +146,14 @@ fn sample() -> Result<(), Box<dyn Error>> {
     patch(&mut file, &mut table, START + 2 * 16 + 4, &[0x0B])?;
     // The last byte before the large header: no function has a part in it.
     patch(&mut file, &mut table, LARGE - 1, &[0xFF])?;
-    // A place past the end: the refresh is refused, and the table stays as it was.
-    let refused = patch(&mut file, &mut table, START + 16 + 8, &[0xFF]).unwrap_err();
+    // Another size of function 0, and a place of function 1 past the end: the refresh is refused, and no row changes.
+    let mut bytes = file[START + 4..=START + 24].to_vec();
+    (bytes[0], bytes[20]) = (0x0C, 0xFF);
+    let refused = patch(&mut file, &mut table, START + 4, &bytes).unwrap_err();
     println!("{refused}");
-    println!("function 1 still has the name {}", table[1].name());
-    Ok(())
+    println!("function 0 still has the size {}", table[0].size());
+    // The place is put right. What was refused is not forgotten: function 0 is read again too.
+    patch(&mut file, &mut table, START + 24, &[0])
 }
 
 fn hex(bytes: &[u8]) -> String {
@@ -137,12 +161,14 @@ fn hex(bytes: &[u8]) -> String {
     digits.join(" ")
 }
 
-fn unhex(word: &str) -> Result<Vec<u8>, Box<dyn Error>> {
-    if !word.len().is_multiple_of(2) || !word.bytes().all(|digit| digit.is_ascii_hexdigit()) {
-        return Err("HEXBYTES needs two digits for each byte".into());
+fn unhex(word: &str) -> Result<Vec<u8>, String> {
+    let digits = word.strip_prefix("0x").unwrap_or(word);
+    if !digits.len().is_multiple_of(2) || !digits.bytes().all(|digit| digit.is_ascii_hexdigit()) {
+        return Err("two hexadecimal digits for each byte are needed".into());
     }
-    let pairs = (0..word.len()).step_by(2).map(|i| &word[i..i + 2]);
-    Ok(pairs
-        .map(|pair| u8::from_str_radix(pair, 16))
-        .collect::<Result<_, _>>()?)
+    let pairs = (0..digits.len()).step_by(2).map(|i| &digits[i..i + 2]);
+    let bytes = pairs.map(|pair| u8::from_str_radix(pair, 16));
+    bytes
+        .collect::<Result<_, _>>()
+        .map_err(|why| why.to_string())
 }

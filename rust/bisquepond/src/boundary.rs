@@ -6,7 +6,7 @@
 
 #![allow(unsafe_code)]
 
-use crate::refusal::{Place, Refusal};
+use crate::refusal::{Place, Refusal, Result};
 use crate::sys;
 
 /// A row of a table: so many words, and nothing else.
@@ -51,23 +51,23 @@ pub unsafe trait Row: Copy + Default + 'static {
 pub(crate) fn rows_of<R: Row>(words: &[u32]) -> &[R] {
     let rows = words.len() / R::WORDS;
     // SAFETY: a row is WORDS words, with their alignment, and any words are a row; so many lie in the slice.
-    unsafe { std::slice::from_raw_parts(words.as_ptr().cast(), rows) }
+    unsafe { core::slice::from_raw_parts(words.as_ptr().cast(), rows) }
 }
 
 pub(crate) fn rows_of_mut<R: Row>(words: &mut [u32]) -> &mut [R] {
     let rows = words.len() / R::WORDS;
     // SAFETY: as above; the words are borrowed exclusively for as long as the rows are.
-    unsafe { std::slice::from_raw_parts_mut(words.as_mut_ptr().cast(), rows) }
+    unsafe { core::slice::from_raw_parts_mut(words.as_mut_ptr().cast(), rows) }
 }
 
 fn words_of<R: Row>(rows: &[R]) -> &[u32] {
     // SAFETY: the slice is so many words, each row being WORDS of them and nothing else.
-    unsafe { std::slice::from_raw_parts(rows.as_ptr().cast(), rows.len() * R::WORDS) }
+    unsafe { core::slice::from_raw_parts(rows.as_ptr().cast(), rows.len() * R::WORDS) }
 }
 
 fn words_of_mut<R: Row>(rows: &mut [R]) -> &mut [u32] {
     // SAFETY: as above; any words are a row, so that whatever is written leaves rows.
-    unsafe { std::slice::from_raw_parts_mut(rows.as_mut_ptr().cast(), rows.len() * R::WORDS) }
+    unsafe { core::slice::from_raw_parts_mut(rows.as_mut_ptr().cast(), rows.len() * R::WORDS) }
 }
 
 macro_rules! rows {
@@ -113,12 +113,12 @@ pub(crate) fn remaining(s: &[u8], at: usize) -> usize {
     unsafe { sys::hbc_remaining(s.as_ptr(), s.len(), at) }
 }
 
-pub(crate) fn seek(s: &[u8], at: &mut usize, to: usize) -> Result<(), Refusal> {
+pub(crate) fn seek(s: &[u8], at: &mut usize, to: usize) -> Result<()> {
     let code = unsafe { sys::hbc_seek(s.as_ptr(), s.len(), at, to) };
     Refusal::check(code, Place::Nothing).map(drop)
 }
 
-pub(crate) fn align(s: &[u8], at: &mut usize, alignment: usize) -> Result<(), Refusal> {
+pub(crate) fn align(s: &[u8], at: &mut usize, alignment: usize) -> Result<()> {
     let code = unsafe { sys::hbc_align(s.as_ptr(), s.len(), at, alignment) };
     Refusal::check(code, Place::Nothing).map(drop)
 }
@@ -126,7 +126,7 @@ pub(crate) fn align(s: &[u8], at: &mut usize, alignment: usize) -> Result<(), Re
 macro_rules! numbers {
     ($($name:ident = $call:ident -> $kind:ty;)*) => {
         $(
-            pub(crate) fn $name(s: &[u8], at: &mut usize) -> Result<$kind, Refusal> {
+            pub(crate) fn $name(s: &[u8], at: &mut usize) -> Result<$kind> {
                 let mut value = Default::default();
                 let code = unsafe { sys::$call(s.as_ptr(), s.len(), at, &mut value) };
                 Refusal::check(code, Place::Nothing).map(|_| value)
@@ -150,7 +150,7 @@ numbers! {
 macro_rules! parts {
     ($($name:ident = $call:ident($($len:ident)?);)*) => {
         $(
-            pub(crate) fn $name<'a>(s: &'a [u8], at: &mut usize, $($len: usize)?) -> Result<&'a [u8], Refusal> {
+            pub(crate) fn $name<'a>(s: &'a [u8], at: &mut usize, $($len: usize)?) -> Result<&'a [u8]> {
                 let (mut start, mut size) = (0, 0);
                 let code = unsafe { sys::$call(s.as_ptr(), s.len(), at, $($len,)? &mut start, &mut size) };
                 Refusal::check(code, Place::Nothing).map(|_| &s[start..][..size])
@@ -168,7 +168,7 @@ parts! {
 macro_rules! tables {
     ($($name:ident = $call:ident;)*) => {
         $(
-            pub(crate) fn $name(s: &[u8], at: &mut usize, count: u32, words: &mut [u32]) -> Result<(), Refusal> {
+            pub(crate) fn $name(s: &[u8], at: &mut usize, count: u32, words: &mut [u32]) -> Result<()> {
                 let (lent, len) = (words.as_mut_ptr(), words.len());
                 let code = unsafe { sys::$call(s.as_ptr(), s.len(), at, count, lent, len) };
                 Refusal::check(code, Place::Entries).map(drop)
@@ -187,7 +187,7 @@ pub(crate) fn decode_strings(
     [kinds, small, overflow]: [&[u32]; 3],
     storage: &[u8],
     rows: &mut [StringRow],
-) -> Result<u32, Refusal> {
+) -> Result<u32> {
     let rows = words_of_mut(rows);
     let code = unsafe {
         sys::hbc_decode_strings(
@@ -224,7 +224,7 @@ pub(crate) fn string_bytes<'a>(storage: &'a [u8], rows: &[StringRow], index: usi
 }
 
 /// The kind, the float and the word; what the kind does not speak of is 0.
-pub(crate) fn read_literal(s: &[u8], at: &mut usize, tag: u8) -> Result<(u32, f64, u32), Refusal> {
+pub(crate) fn read_literal(s: &[u8], at: &mut usize, tag: u8) -> Result<(u32, f64, u32)> {
     let (mut kind, mut number, mut word) = (0, 0.0, 0);
     let code = unsafe {
         sys::hbc_read_literal(
@@ -246,7 +246,7 @@ pub(crate) fn read_series(
     count: u32,
     kinds: &mut [u32],
     payloads: &mut [u64],
-) -> Result<u32, Refusal> {
+) -> Result<u32> {
     let (kinds_len, payloads_len) = (kinds.len(), payloads.len());
     let (kinds, payloads) = (kinds.as_mut_ptr(), payloads.as_mut_ptr());
     let code = unsafe {
@@ -271,7 +271,7 @@ pub(crate) fn read_object(
     count: u32,
     kinds: &mut [u32],
     payloads: &mut [u64],
-) -> Result<u32, Refusal> {
+) -> Result<u32> {
     let (kinds_len, payloads_len) = (kinds.len(), payloads.len());
     let (kinds, payloads) = (kinds.as_mut_ptr(), payloads.as_mut_ptr());
     let code = unsafe {
@@ -298,7 +298,7 @@ pub(crate) fn read_functions(
     start: usize,
     count: u32,
     rows: &mut [FunctionRow],
-) -> Result<u32, Refusal> {
+) -> Result<u32> {
     let (s, len, rows) = (file.as_ptr(), file.len(), words_of_mut(rows));
     let (lent, words) = (rows.as_mut_ptr(), rows.len());
     let code = unsafe { sys::hbc_read_functions(s, len, layout, start, count, lent, words) };
@@ -312,7 +312,7 @@ pub(crate) fn refresh_functions(
     count: u32,
     (low, high): (usize, usize),
     rows: &mut [FunctionRow],
-) -> Result<u32, Refusal> {
+) -> Result<u32> {
     let (s, len, rows) = (file.as_ptr(), file.len(), words_of_mut(rows));
     let (lent, words) = (rows.as_mut_ptr(), rows.len());
     let code =
@@ -325,7 +325,7 @@ pub(crate) fn read_function(
     layout: u32,
     start: usize,
     id: u32,
-) -> Result<FunctionRow, Refusal> {
+) -> Result<FunctionRow> {
     let mut row = FunctionRow::default();
     let (s, len, lent) = (file.as_ptr(), file.len(), &mut row.0);
     let (lent, words) = (lent.as_mut_ptr(), lent.len());
@@ -333,17 +333,30 @@ pub(crate) fn read_function(
     Refusal::check(code, Place::Function).map(|_| row)
 }
 
-/// A layout that there is not is the only refusal.
+/// The header's place, and the large header's or `usize::MAX`.
+pub(crate) fn function_ground(
+    file: &[u8],
+    layout: u32,
+    start: usize,
+    id: u32,
+) -> Result<(usize, usize), Refusal> {
+    let (s, len, mut header, mut large) = (file.as_ptr(), file.len(), 0, 0);
+    let code = unsafe {
+        sys::hbc_function_ground(s, len, layout, start, id, &mut header, &mut large)
+    };
+    Refusal::check(code, Place::Function).map(|_| (header, large))
+}
+
 pub(crate) fn function_meets(
     file: &[u8],
     layout: u32,
     start: usize,
     id: u32,
     (low, high): (usize, usize),
-) -> Result<bool, Refusal> {
+) -> Result<bool> {
     let (s, len) = (file.as_ptr(), file.len());
     let code = unsafe { sys::hbc_function_meets(s, len, layout, start, id, low, high) };
-    Refusal::check(code, Place::Nothing).map(|met| met != 0)
+    Refusal::check(code, Place::Function).map(|met| met != 0)
 }
 
 /// How many rows were written.
@@ -352,7 +365,7 @@ pub(crate) fn read_handlers(
     functions: &[FunctionRow],
     count: u32,
     rows: &mut [HandlerRow],
-) -> Result<usize, Refusal> {
+) -> Result<usize> {
     let (s, len, mut total) = (file.as_ptr(), file.len(), 0);
     let (functions, rows) = (words_of(functions), words_of_mut(rows));
     let (read, read_len) = (functions.as_ptr(), functions.len());
@@ -368,7 +381,7 @@ pub(crate) fn trailing_sections(
     start: usize,
     [regexps, storage, cjs]: [u32; 3],
     sources: Option<u32>,
-) -> Result<[[u32; 4]; 5], Refusal> {
+) -> Result<[[u32; 4]; 5]> {
     let mut rows = [[0; 4]; 5];
     let (s, len, lent) = (file.as_ptr(), file.len(), rows.as_flattened_mut());
     let (lent, words) = (lent.as_mut_ptr(), lent.len());
@@ -389,7 +402,7 @@ pub(crate) fn read_debug(
     scopes: &mut [ScopeRow],
     names: &mut [NameRow],
     callees: &mut [CalleeRow],
-) -> Result<[usize; 4], Refusal> {
+) -> Result<[usize; 4]> {
     let (strings, scopes) = (words_of_mut(strings), words_of_mut(scopes));
     let (names, callees) = (words_of_mut(names), words_of_mut(callees));
     let mut counts = [0; 4];

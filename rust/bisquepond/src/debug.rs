@@ -1,5 +1,6 @@
-//! The debug section: strings, scopes with their names, and callees. Callees whose addresses do not rise take 768 KiB of
-//! stack, however many there are.
+//! The debug section: strings, scopes with their names, and callees. It is read on 8 KiB of stack where the callees'
+//! addresses rise or there are none, else on 272 KiB, however many there are; n of those take three passes over all of
+//! them for each 65,536.
 //!
 //! ```
 //! // One byte, then the section: seven words, and the data in three parts.
@@ -21,11 +22,10 @@
 //! # Ok::<(), bisquepond::Refusal>(())
 //! ```
 
-use std::fmt;
+use core::fmt;
 
 use crate::boundary;
-use crate::refusal::TOO_FEW_ROWS;
-use crate::{Refusal, Table};
+use crate::{Reason, Result, Table};
 
 pub use crate::boundary::{CalleeRow, NameRow, ScopeRow, TextRow};
 
@@ -89,6 +89,28 @@ impl ScopeRow {
     /// ```
     pub const fn parent(&self) -> Option<u32> {
         some(self.0[1])
+    }
+
+    /// Whether its flags say that it is an inner scope (bit 0).
+    ///
+    /// ```
+    /// # use bisquepond::{Row, debug::ScopeRow};
+    /// assert!(ScopeRow::rows(&[0, 0, 1, 0, 0])[0].is_inner_scope());
+    /// assert!(!ScopeRow::rows(&[0, 0, 2, 0, 0])[0].is_inner_scope());
+    /// ```
+    pub const fn is_inner_scope(&self) -> bool {
+        self.flags() & 1 != 0
+    }
+
+    /// Whether its flags say that it is dynamic (bit 1).
+    ///
+    /// ```
+    /// # use bisquepond::{Row, debug::ScopeRow};
+    /// assert!(ScopeRow::rows(&[0, 0, 2, 0, 0])[0].is_dynamic());
+    /// assert!(!ScopeRow::rows(&[0, 0, 1, 0, 0])[0].is_dynamic());
+    /// ```
+    pub const fn is_dynamic(&self) -> bool {
+        self.flags() & 2 != 0
     }
 }
 
@@ -237,7 +259,9 @@ impl DebugInfo {
 /// Reads the debug section at byte `offset` of the file into four tables that are lent, and answers their first rows;
 /// other rows stay. At offset 0, 2^32 - 1, or at or past the end there is no debug information: no rows.
 ///
-/// Refused 1; 3 if the header of 28 bytes is cut; 4 if one of the tables has too few rows, looked at last.
+/// # Errors
+///
+/// `TooLong`; `Cut` if the header of 28 bytes is cut; `TooFewRows` if one of the tables has too few rows, looked at last.
 ///
 /// ```
 /// use bisquepond::debug::{self, CalleeRow, LentTables, NameRow, ScopeRow, TextRow};
@@ -266,7 +290,7 @@ pub fn read_debug_into<'t>(
     file: &[u8],
     offset: u32,
     lent: &'t mut LentTables<'_>,
-) -> Result<DebugRows<'t>, Refusal> {
+) -> Result<DebugRows<'t>> {
     let LentTables {
         strings,
         scopes,
@@ -282,7 +306,11 @@ pub fn read_debug_into<'t>(
     })
 }
 
-/// The same into tables of their own. Refused so, but never 4.
+/// The same into tables of their own.
+///
+/// # Errors
+///
+/// Those of [`read_debug_into`], but never `TooFewRows`.
 ///
 /// ```
 /// # let mut file = vec![0];
@@ -294,7 +322,7 @@ pub fn read_debug_into<'t>(
 /// assert_eq!(bisquepond::debug::read_debug(&file[..28], 1).unwrap_err().number, 3);
 /// # Ok::<(), bisquepond::Refusal>(())
 /// ```
-pub fn read_debug(file: &[u8], offset: u32) -> Result<DebugInfo, Refusal> {
+pub fn read_debug(file: &[u8], offset: u32) -> Result<DebugInfo> {
     // A row of any table takes a byte at the least, so that as many rows as bytes are always enough. Most sections need
     // far fewer: the tables begin shorter, and grow while they are refused.
     let most = file.len().saturating_sub(offset as usize);
@@ -312,7 +340,8 @@ pub fn read_debug(file: &[u8], offset: u32) -> Result<DebugInfo, Refusal> {
             names,
             callees,
         } = &mut debug;
-        match boundary::read_debug(file, offset, strings, scopes, names, callees) {
+        let (a, b, c, d) = (strings.lent(), scopes.lent(), names.lent(), callees.lent());
+        match boundary::read_debug(file, offset, a, b, c, d) {
             Ok([texts, scoped, named, called]) => {
                 strings.keep(texts);
                 scopes.keep(scoped);
@@ -320,7 +349,7 @@ pub fn read_debug(file: &[u8], offset: u32) -> Result<DebugInfo, Refusal> {
                 callees.keep(called);
                 return Ok(debug);
             }
-            Err(refusal) if refusal.number == TOO_FEW_ROWS && room < most => {
+            Err(refusal) if refusal.reason() == Reason::TooFewRows && room < most => {
                 room = most.min(room.saturating_mul(4));
             }
             Err(refusal) => return Err(refusal),

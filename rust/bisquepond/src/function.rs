@@ -3,21 +3,39 @@
 //! A header whose overflow flag is set is read from its large header, at the place packed into it, which may lie
 //! anywhere in the file. So an edit far from the table can change a row, and [`FunctionTable::refresh`] knows which.
 
-use std::fmt;
-use std::ops::{Deref, Range};
+use core::fmt;
+use core::ops::{Bound, Deref, Range, RangeBounds};
+use core::slice;
+use core::str::FromStr;
 
 use crate::boundary;
-use crate::refusal::TOO_FEW_ROWS;
-use crate::{Refusal, Table};
+use crate::refusal::Place;
+use crate::{Reason, Refusal, Result, Table};
 
 pub use crate::boundary::FunctionRow;
 
-/// The two layouts of a function header.
+/// The flags byte says that the function is in strict mode.
+pub const FLAG_STRICT: u32 = 0x01;
+/// The flags byte says that the function has exception handlers.
+pub const FLAG_HAS_EXCEPTION_HANDLER: u32 = 0x08;
+/// The flags byte says that the function cannot be used with `new`.
+pub const FLAG_PROHIBIT_CONSTRUCT: u32 = 0x10;
+/// The flags byte says that the fields are in a large header.
+pub const FLAG_OVERFLOWED: u32 = 0x20;
+
+/// The two layouts of a function header. It is shown as `legacy16` or `modern12`, and read from these words, or from the
+/// number that it has in C.
 ///
 /// ```
-/// use bisquepond::Layout;
+/// use bisquepond::{Layout, Reason};
 ///
 /// assert_eq!((Layout::Legacy16.header_size(), Layout::Modern12.header_size()), (16, 12));
+/// assert_eq!(Layout::Modern12.to_string(), "modern12");
+/// assert_eq!("legacy16".parse(), Ok(Layout::Legacy16));
+/// assert_eq!((Layout::try_from(1), u32::from(Layout::Modern12)), (Ok(Layout::Modern12), 1));
+/// let refusal = Layout::try_from(2).unwrap_err();
+/// assert_eq!(refusal.reason(), Reason::NoSuchLayout);
+/// assert_eq!("modern".parse::<Layout>(), Err(refusal));
 /// ```
 #[derive(Clone, Copy, PartialEq, Eq, Hash, Debug)]
 pub enum Layout {
@@ -58,6 +76,62 @@ impl Layout {
     }
 }
 
+const NO_SUCH_LAYOUT: Refusal = Refusal::of(Reason::NoSuchLayout, 0, Place::Nothing);
+
+impl fmt::Display for Layout {
+    fn fmt(&self, f: &mut fmt::Formatter<'_>) -> fmt::Result {
+        f.pad(match self {
+            Layout::Legacy16 => "legacy16",
+            Layout::Modern12 => "modern12",
+        })
+    }
+}
+
+impl FromStr for Layout {
+    type Err = Refusal;
+
+    fn from_str(word: &str) -> Result<Layout> {
+        match word {
+            "legacy16" => Ok(Layout::Legacy16),
+            "modern12" => Ok(Layout::Modern12),
+            _ => Err(NO_SUCH_LAYOUT),
+        }
+    }
+}
+
+impl TryFrom<u32> for Layout {
+    type Error = Refusal;
+
+    fn try_from(number: u32) -> Result<Layout> {
+        match number {
+            0 => Ok(Layout::Legacy16),
+            1 => Ok(Layout::Modern12),
+            _ => Err(NO_SUCH_LAYOUT),
+        }
+    }
+}
+
+impl From<Layout> for u32 {
+    fn from(layout: Layout) -> u32 {
+        layout.number()
+    }
+}
+
+/// Where a span begins and ends; `end` is what an open one ends at.
+fn span_of(span: &impl RangeBounds<usize>, end: usize) -> (usize, usize) {
+    let low = match span.start_bound() {
+        Bound::Included(&low) => low,
+        Bound::Excluded(&low) => low.saturating_add(1),
+        Bound::Unbounded => 0,
+    };
+    let high = match span.end_bound() {
+        Bound::Included(&high) => high.saturating_add(1),
+        Bound::Excluded(&high) => high,
+        Bound::Unbounded => end,
+    };
+    (low, high)
+}
+
 words! {
     FunctionRow,
     "# let file = [0, 1, 0, 4, 0x0A, 0x80, 1, 0, 0, 0, 0, 0x0A, 1, 2, 3, 4];\nlet row = bisquepond::function::read_function(&file, bisquepond::Layout::Legacy16, 0, 0)?;":
@@ -86,7 +160,7 @@ words! {
 ///
 /// let file = [0, 1, 0, 4, 0x0A, 0x80, 1, 0, 0, 0, 0, 0x0A, 1, 2, 3, 4];
 /// let row = function::read_function(&file, Layout::Legacy16, 0, 0)?;
-/// assert_eq!(row.rest(), Rest::Legacy16 { environment_size: 1, read_index: 2, write_index: 3 });
+/// assert_eq!(row.rest(), Some(Rest::Legacy16 { environment_size: 1, read_index: 2, write_index: 3 }));
 /// # Ok::<(), bisquepond::Refusal>(())
 /// ```
 #[derive(Clone, Copy, PartialEq, Eq, Hash, Debug)]
@@ -132,41 +206,43 @@ const MODERN: [&str; 7] = [
 ];
 
 impl FunctionRow {
-    /// The layout of the header that it was read from.
+    /// The layout of the header that it was read from; none of words that no call wrote, whose first is neither 0 nor 1.
     ///
     /// ```
-    /// # use bisquepond::{Layout, function};
+    /// # use bisquepond::{Layout, Row, function::{self, FunctionRow}};
     /// # let file = [0, 1, 0, 0x44, 0x0A, 0xC0, 0, 0x29, 6, 7, 0x48, 4];
     /// let row = function::read_function(&file, Layout::Modern12, 0, 0)?;
-    /// assert_eq!(row.layout(), Layout::Modern12);
+    /// assert_eq!(row.layout(), Some(Layout::Modern12));
+    /// assert_eq!(FunctionRow::rows(&[7; 16])[0].layout(), None);
     /// # Ok::<(), bisquepond::Refusal>(())
     /// ```
-    pub const fn layout(&self) -> Layout {
+    pub const fn layout(&self) -> Option<Layout> {
         match self.0[0] {
-            0 => Layout::Legacy16,
-            _ => Layout::Modern12,
+            0 => Some(Layout::Legacy16),
+            1 => Some(Layout::Modern12),
+            _ => None,
         }
     }
 
-    /// The fields that only its layout has.
+    /// The fields that only its layout has; none where it has no layout.
     ///
     /// ```
     /// # use bisquepond::{Layout, function::{self, Rest}};
     /// # let file = [0, 1, 0, 0x44, 0x0A, 0xC0, 0, 0x29, 6, 7, 0x48, 4];
     /// let row = function::read_function(&file, Layout::Modern12, 0, 0)?;
-    /// let Rest::Modern12 { loop_depth, number_reg, write_cache, .. } = row.rest() else { panic!() };
+    /// let Some(Rest::Modern12 { loop_depth, number_reg, write_cache, .. }) = row.rest() else { panic!() };
     /// assert_eq!((loop_depth, number_reg, write_cache), (1, 4, 8));
     /// # Ok::<(), bisquepond::Refusal>(())
     /// ```
-    pub const fn rest(&self) -> Rest {
+    pub const fn rest(&self) -> Option<Rest> {
         let [_, _, _, _, _, _, _, _, _, a, b, c, d, e, f, g] = self.0;
         match self.layout() {
-            Layout::Legacy16 => Rest::Legacy16 {
+            Some(Layout::Legacy16) => Some(Rest::Legacy16 {
                 environment_size: a,
                 read_index: b,
                 write_index: c,
-            },
-            Layout::Modern12 => Rest::Modern12 {
+            }),
+            Some(Layout::Modern12) => Some(Rest::Modern12 {
                 loop_depth: a,
                 number_reg: b,
                 non_ptr_reg: c,
@@ -174,24 +250,28 @@ impl FunctionRow {
                 write_cache: e,
                 new_object: f,
                 private_name: g,
-            },
+            }),
+            None => None,
         }
     }
 
-    /// Whether its flags say that it has exception handlers (bit 3).
+    /// How many closure slots it has; a legacy header says so, a modern one does not.
     ///
     /// ```
     /// # use bisquepond::{Layout, function};
-    /// # let mut file = [0; 16];
-    /// file[15] = 8;
-    /// assert!(function::read_function(&file, Layout::Legacy16, 0, 0)?.has_handlers());
+    /// # let file = [0, 1, 0, 4, 0x0A, 0x80, 1, 0, 0, 0, 0, 0x0A, 1, 2, 3, 4];
+    /// assert_eq!(function::read_function(&file, Layout::Legacy16, 0, 0)?.environment_size(), Some(1));
+    /// assert_eq!(function::read_function(&file, Layout::Modern12, 0, 0)?.environment_size(), None);
     /// # Ok::<(), bisquepond::Refusal>(())
     /// ```
-    pub const fn has_handlers(&self) -> bool {
-        self.flags() & 8 != 0
+    pub const fn environment_size(&self) -> Option<u32> {
+        match self.layout() {
+            Some(Layout::Legacy16) => Some(self.0[9]),
+            _ => None,
+        }
     }
 
-    /// Every field by its name, in the order of the row.
+    /// Every field by its name, in the order of the row; of no layout those alone that both have.
     ///
     /// ```
     /// # use bisquepond::{Layout, function};
@@ -203,20 +283,79 @@ impl FunctionRow {
     /// ```
     pub fn fields(&self) -> impl Iterator<Item = (&'static str, u32)> + use<> {
         let own: &[&str] = match self.layout() {
-            Layout::Legacy16 => &LEGACY,
-            Layout::Modern12 => &MODERN,
+            Some(Layout::Legacy16) => &LEGACY,
+            Some(Layout::Modern12) => &MODERN,
+            None => &[],
         };
         let names = FIELDS.iter().chain(own).copied();
         names.zip(self.0.into_iter().skip(1))
     }
 }
 
+/// For each flag its call, and the constant of it.
+macro_rules! flags {
+    ($($(#[$doc:meta])* $name:ident = $flag:ident, $bits:literal;)*) => {
+        impl FunctionRow {
+            $(
+                $(#[$doc])*
+                ///
+                /// ```
+                /// # use bisquepond::{Layout, function};
+                /// # let mut file = [0; 16];
+                #[doc = concat!("file[15] = ", $bits, ";")]
+                #[doc = concat!("assert!(function::read_function(&file, Layout::Legacy16, 0, 0)?.", stringify!($name), "());")]
+                /// # file[15] = 0;
+                #[doc = concat!("# assert!(!function::read_function(&file, Layout::Legacy16, 0, 0)?.", stringify!($name), "());")]
+                /// # Ok::<(), bisquepond::Refusal>(())
+                /// ```
+                pub const fn $name(&self) -> bool {
+                    self.flags() & $flag != 0
+                }
+            )*
+        }
+    };
+}
+
+flags! {
+    /// Whether its flags say that it is in strict mode (bit 0).
+    is_strict = FLAG_STRICT, "0x01";
+    /// Whether its flags say that it has exception handlers (bit 3).
+    has_handlers = FLAG_HAS_EXCEPTION_HANDLER, "0x08";
+    /// Whether its flags say that it cannot be used with `new` (bit 4).
+    prohibit_construct = FLAG_PROHIBIT_CONSTRUCT, "0x10";
+    /// Whether it is likely an arrow function: such cannot be used with `new`.
+    is_likely_arrow = FLAG_PROHIBIT_CONSTRUCT, "0x10";
+}
+
+impl FunctionRow {
+    /// Whether its flags have the overflow bit (bit 5). Of a function that was read from its large header these are the
+    /// large header's own flags, in which the bit need not be set.
+    ///
+    /// ```
+    /// # use bisquepond::{Layout, function};
+    /// // A header whose large header is at byte 16: its flags byte is the last of 31.
+    /// let mut file = [0; 47];
+    /// (file[0], file[15]) = (16, 0x20);
+    /// assert!(!function::read_function(&file, Layout::Legacy16, 0, 0)?.is_overflowed());
+    /// file[46] = 0x20;
+    /// assert!(function::read_function(&file, Layout::Legacy16, 0, 0)?.is_overflowed());
+    /// # Ok::<(), bisquepond::Refusal>(())
+    /// ```
+    pub const fn is_overflowed(&self) -> bool {
+        self.flags() & FLAG_OVERFLOWED != 0
+    }
+}
+
 impl fmt::Debug for FunctionRow {
     fn fmt(&self, f: &mut fmt::Formatter<'_>) -> fmt::Result {
         let mut shown = f.debug_struct(match self.layout() {
-            Layout::Legacy16 => "Legacy16",
-            Layout::Modern12 => "Modern12",
+            Some(Layout::Legacy16) => "Legacy16",
+            Some(Layout::Modern12) => "Modern12",
+            None => "FunctionRow",
         });
+        if self.layout().is_none() {
+            shown.field("no_such_layout", &self.0[0]);
+        }
         for (name, word) in self.fields() {
             shown.field(name, &word);
         }
@@ -226,7 +365,9 @@ impl fmt::Debug for FunctionRow {
 
 /// Reads function `id` alone. `start` is the byte of the file at which the table of headers begins.
 ///
-/// Refused 1; 2 at place 0 if `start` is past the end; 2 or 3 with `id` as place.
+/// # Errors
+///
+/// `TooLong`; `PastEnd` at place 0 if `start` is past the end; `PastEnd` or `Cut` with `id` as place.
 ///
 /// ```
 /// use bisquepond::{Layout, function};
@@ -238,19 +379,17 @@ impl fmt::Debug for FunctionRow {
 /// assert_eq!((refusal.number, refusal.place), (3, 1));
 /// # Ok::<(), bisquepond::Refusal>(())
 /// ```
-pub fn read_function(
-    file: &[u8],
-    layout: Layout,
-    start: usize,
-    id: u32,
-) -> Result<FunctionRow, Refusal> {
+pub fn read_function(file: &[u8], layout: Layout, start: usize, id: u32) -> Result<FunctionRow> {
     boundary::read_function(file, layout.number(), start, id)
 }
 
 /// Reads functions 0 to count - 1 into the first rows that are lent, and answers these. Other rows stay.
 ///
-/// Refused 1; 2 if `start` is past the end; 4 if fewer than `count` rows are lent; then, with the first function that
-/// cannot be read as place, 2 if its packed place is past the end, 3 if its header or large header runs past the end.
+/// # Errors
+///
+/// `TooLong`; `PastEnd` if `start` is past the end; `TooFewRows` if fewer than `count` rows are lent; then, with the first
+/// function that cannot be read as place, `PastEnd` if its packed place is past the end, `Cut` if its header or large
+/// header runs past the end.
 ///
 /// ```
 /// use bisquepond::{Layout, function::{self, FunctionRow}};
@@ -269,17 +408,22 @@ pub fn read_functions_into<'t>(
     start: usize,
     count: u32,
     rows: &'t mut [FunctionRow],
-) -> Result<&'t [FunctionRow], Refusal> {
+) -> Result<&'t [FunctionRow]> {
     let read = boundary::read_functions(file, layout.number(), start, count, rows)?;
     Ok(&rows[..read as usize])
 }
 
 /// Brings rows up to date after the bytes of `span` changed, and nothing else: reads again those of the first `count`
 /// functions whose header or large header shares a byte with it, from the file as it is now. Answers how many.
-/// [`FunctionTable::refresh`] is this with the table's own layout, start and count.
 ///
-/// Refused 1; 2 if `start` is past the end; 10 if the span is reversed or goes past the end; 4 as above; 3 with the
-/// first function whose header is not wholly in the file; then as a read, for the first function that meets the span.
+/// Refused, no row was changed, and the edit is not taken in: the caller undoes it, or holds it in the span of the next
+/// call too; a file of another length is read anew. [`FunctionTable::refresh`] sees to this by itself.
+///
+/// # Errors
+///
+/// `TooLong`; `PastEnd` if `start` is past the end; `BadSpan` if the span is reversed or goes past the end; `TooFewRows`
+/// if fewer than `count` rows are lent; `Cut` with the first function whose header is not wholly in the file; then as a
+/// read, for the first function that meets the span.
 ///
 /// ```
 /// use bisquepond::{Layout, function::{self, FunctionRow}};
@@ -299,39 +443,90 @@ pub fn refresh_functions(
     layout: Layout,
     start: usize,
     count: u32,
-    span: Range<usize>,
+    span: impl RangeBounds<usize>,
     rows: &mut [FunctionRow],
-) -> Result<u32, Refusal> {
-    let span = (span.start, span.end);
+) -> Result<u32> {
+    let span = span_of(&span, file.len());
     boundary::refresh_functions(file, layout.number(), start, count, span, rows)
 }
 
-/// Whether the header of function `id`, or its large header if it has one, shares a byte with the span, which need not
-/// lie in the file. Not so where its header is not wholly in the file, or the file is longer than 2^30 bytes.
+/// What a function is read from, as places in the file: its header, and the large header if its flag names one.
+#[derive(Clone, Copy, Debug, PartialEq, Eq, Hash)]
+pub struct Ground {
+    /// Where its own header starts.
+    pub header: usize,
+    /// Where its large header starts, if it has one; this may be past the end of the file.
+    pub large: Option<usize>,
+}
+
+/// What function `id` is read from. Whether its large header is there is not looked at.
+///
+/// # Errors
+///
+/// [`TooLong`](crate::Reason::TooLong); [`PastEnd`](crate::Reason::PastEnd) if `start` is past the end;
+/// [`Cut`](crate::Reason::Cut), with `id` as place, if its header is not wholly in the file.
+///
+/// ```
+/// use bisquepond::{Layout, function::{self, Ground}};
+///
+/// // One function, whose large header is at byte 12: the name is 0 and the low 24 bits of the offset are 12.
+/// let mut file = [0; 49];
+/// (file[0], file[11]) = (12, 0x20);
+/// let ground = function::function_ground(&file, Layout::Modern12, 0, 0)?;
+/// assert_eq!(ground, Ground { header: 0, large: Some(12) });
+/// assert_eq!(function::function_ground(&file, Layout::Modern12, 12, 2)?, Ground { header: 36, large: None });
+/// let refusal = function::function_ground(&file, Layout::Modern12, 12, 3).unwrap_err();
+/// assert_eq!((refusal.number, refusal.place), (3, 3));
+/// # Ok::<(), bisquepond::Refusal>(())
+/// ```
+pub fn function_ground(
+    file: &[u8],
+    layout: Layout,
+    start: usize,
+    id: u32,
+) -> Result<Ground> {
+    let (header, large) = boundary::function_ground(file, layout.number(), start, id)?;
+    let large = (large != usize::MAX).then_some(large);
+    Ok(Ground { header, large })
+}
+
+/// Whether the header of function `id`, or its large header if it has one, shares a byte with the span.
+///
+/// # Errors
+///
+/// [`TooLong`](crate::Reason::TooLong); [`PastEnd`](crate::Reason::PastEnd) if `start` is past the end;
+/// [`BadSpan`](crate::Reason::BadSpan) if the span is reversed or ends past the end of the file;
+/// [`Cut`](crate::Reason::Cut), with `id` as place, if its header is not wholly in the file.
 ///
 /// ```
 /// use bisquepond::{Layout, function};
 ///
 /// // One function, whose large header is at byte 12: the name is 0 and the low 24 bits of the offset are 12.
-/// let mut file = [0; 49];
+/// let mut file = [0; 60];
 /// (file[0], file[11]) = (12, 0x20);
-/// assert!(function::function_meets(&file, Layout::Modern12, 0, 0, 48..49));
-/// assert!(!function::function_meets(&file, Layout::Modern12, 0, 0, 49..60));
+/// assert!(function::function_meets(&file, Layout::Modern12, 0, 0, 48..49)?);
+/// assert!(!function::function_meets(&file, Layout::Modern12, 0, 0, 49..60)?);
+/// let refusal = function::function_meets(&file, Layout::Modern12, 0, 0, 49..61).unwrap_err();
+/// assert_eq!((refusal.number, refusal.place), (10, 0));
+/// # Ok::<(), bisquepond::Refusal>(())
 /// ```
 pub fn function_meets(
     file: &[u8],
     layout: Layout,
     start: usize,
     id: u32,
-    span: Range<usize>,
-) -> bool {
-    let span = (span.start, span.end);
-    // Only a layout that there is not is refused, and a `Layout` is always one.
-    boundary::function_meets(file, layout.number(), start, id, span).unwrap_or(false)
+    span: impl RangeBounds<usize>,
+) -> Result<bool> {
+    let span = span_of(&span, file.len());
+    boundary::function_meets(file, layout.number(), start, id, span)
 }
 
-/// Reads functions 0 to count - 1 into a table of their own. Refused as [`read_functions_into`], but never 4; no rows
-/// are allocated where the headers are not all in the file, whatever the count.
+/// Reads functions 0 to count - 1 into a table of their own. No rows are allocated where the headers are not all in the
+/// file, whatever the count.
+///
+/// # Errors
+///
+/// Those of [`read_functions_into`], but never `TooFewRows`.
 ///
 /// ```
 /// use bisquepond::{Layout, function};
@@ -352,10 +547,10 @@ pub fn read_functions(
     layout: Layout,
     start: usize,
     count: u32,
-) -> Result<FunctionTable, Refusal> {
+) -> Result<FunctionTable> {
     // What comes before 4 is refused with no row lent; past this the file is not too long and the start is in it.
     if let Err(refusal) = read_functions_into(file, layout, start, count, &mut []) {
-        if refusal.number != TOO_FEW_ROWS {
+        if refusal.reason() != Reason::TooFewRows {
             return Err(refusal);
         }
         let fit = (file.len() - start) / layout.header_size();
@@ -368,16 +563,19 @@ pub fn read_functions(
         }
     }
     let mut rows = Table::zeros(count as usize);
-    read_functions_into(file, layout, start, count, &mut rows)?;
+    read_functions_into(file, layout, start, count, rows.lent())?;
     Ok(FunctionTable {
         layout,
         start,
         count,
+        length: file.len(),
+        pending: None,
         rows,
     })
 }
 
-/// The functions of one file, with the layout and the start that they were read by. It is a slice of rows.
+/// The functions of one file, with the layout and the start that they were read by. It is a slice of rows. Two are equal
+/// if these and the rows are.
 ///
 /// ```
 /// use bisquepond::{Layout, function};
@@ -385,13 +583,20 @@ pub fn read_functions(
 /// let file = [0, 1, 0, 4, 0x0A, 0x80, 1, 0, 0, 0, 0, 0x0A, 1, 2, 3, 4];
 /// let table = function::read_functions(&file, Layout::Legacy16, 0, 1)?;
 /// assert_eq!((table.layout(), table.start(), table.len()), (Layout::Legacy16, 0, 1));
+/// for row in &table {
+///     assert_eq!(row.size(), 10);
+/// }
 /// # Ok::<(), bisquepond::Refusal>(())
 /// ```
-#[derive(Clone, PartialEq, Eq, Debug)]
+#[derive(Clone, Debug)]
 pub struct FunctionTable {
     layout: Layout,
     start: usize,
     count: u32,
+    /// The bytes of the file that it was read from.
+    length: usize,
+    /// Bytes of which a refresh was refused, so that their rows may be out of date.
+    pending: Option<(usize, usize)>,
     rows: Table<FunctionRow>,
 }
 
@@ -432,8 +637,28 @@ impl FunctionTable {
         self.rows.words()
     }
 
-    /// Brings the table up to date after the bytes of `span` changed, and nothing else: what a fresh read of `file`
-    /// would give, or that read's refusal. Answers how many functions were read again. Refused, no row is changed.
+    /// The bytes whose edit is not yet taken in, since every refresh from it on was refused: the least span that holds all
+    /// of them. The rows that have a part in it may be out of date. None where the table is what a fresh read would give.
+    ///
+    /// ```
+    /// # use bisquepond::{Layout, function};
+    /// let mut file = [0; 16];
+    /// let mut table = function::read_functions(&file, Layout::Legacy16, 0, 1)?;
+    /// assert_eq!(table.pending(), None);
+    /// file[15] = 0x20; // a large header at byte 0, which would need 31 bytes
+    /// assert!(table.refresh(&file, 15..).is_err());
+    /// assert_eq!(table.pending(), Some(15..16));
+    /// # Ok::<(), bisquepond::Refusal>(())
+    /// ```
+    pub fn pending(&self) -> Option<Range<usize>> {
+        self.pending.map(|(low, high)| low..high)
+    }
+
+    /// Brings the table up to date after the bytes of `span` changed, and nothing else: what a fresh read of `file` would
+    /// give, or that read's refusal. Answers which functions were read again.
+    ///
+    /// Refused, no row is changed, and the span is remembered ([`pending`](Self::pending)): the next refresh reads again
+    /// what has a part in the bytes from the first to the last that are not taken in.
     ///
     /// ```
     /// use bisquepond::{Layout, function};
@@ -447,20 +672,103 @@ impl FunctionTable {
     ///
     /// // Its size is the third number there.
     /// file[1008] = 77;
-    /// assert_eq!(table.refresh(&file, 1008..1009)?, 1);
+    /// let again = table.refresh(&file, 1008..1009)?;
+    /// assert_eq!((again.len(), again.collect::<Vec<_>>()), (1, vec![0]));
     /// assert_eq!(table[0].size(), 77);
     /// assert_eq!(table, function::read_functions(&file, Layout::Legacy16, 0, 1)?);
     ///
     /// // Bytes that no header has a part in.
-    /// assert_eq!(table.refresh(&file, 16..1000)?, 0);
-    /// assert_eq!(table.refresh(&file, 0..1032).unwrap_err().number, 10);
+    /// assert_eq!(table.refresh(&file, 16..1000)?.len(), 0);
     /// # Ok::<(), bisquepond::Refusal>(())
     /// ```
-    pub fn refresh(&mut self, file: &[u8], span: Range<usize>) -> Result<u32, Refusal> {
+    ///
+    /// # Errors
+    ///
+    /// `AnotherLength` if the file has not as many bytes as the one that the table was read from: it is to be read again.
+    /// `BadSpan` if the span is reversed or goes past the end. `Cut` with the first function whose header is not wholly in
+    /// the file as place; `PastEnd` or `Cut` with the first function that has a part in the span and cannot be read.
+    ///
+    /// ```
+    /// use bisquepond::{Layout, Reason, function};
+    ///
+    /// let mut file = [0; 32];
+    /// let mut table = function::read_functions(&file, Layout::Legacy16, 0, 2)?;
+    /// // Function 0 now has a large header at byte 8, which would need 31 bytes. It is refused, and not forgotten.
+    /// (file[0], file[15]) = (8, 0x20);
+    /// assert_eq!(table.refresh(&file, ..16).unwrap_err().reason(), Reason::Cut);
+    /// file[20] = 7;
+    /// assert_eq!(table.refresh(&file, 20..=20).unwrap_err().reason(), Reason::Cut);
+    /// // Undone, all that was missed is taken in: of function 0 its offset, of function 1 its size.
+    /// file[15] = 0;
+    /// assert!(table.refresh(&file, 15..16)?.eq([0, 1]));
+    /// assert_eq!((table[0].offset(), table[1].size()), (8, 7));
+    ///
+    /// assert_eq!(table.refresh(&file[..31], ..).unwrap_err().reason(), Reason::AnotherLength);
+    /// assert_eq!(table.refresh(&file, ..33).unwrap_err().reason(), Reason::BadSpan);
+    /// # Ok::<(), bisquepond::Refusal>(())
+    /// ```
+    pub fn refresh<'f>(
+        &mut self,
+        file: &'f [u8],
+        span: impl RangeBounds<usize>,
+    ) -> Result<Refreshed<'f>> {
+        let span = span_of(&span, file.len());
+        let refreshed = self.refreshed(file, span);
+        self.pending = match refreshed {
+            Ok(_) => None,
+            // More than what changed may be remembered, but never less: a reversed span is taken for the other way round.
+            Err(_) => hull(self.pending, within(span, self.length)),
+        };
+        refreshed
+    }
+
+    fn refreshed<'f>(&mut self, file: &'f [u8], span: (usize, usize)) -> Result<Refreshed<'f>> {
         let (layout, start, count) = (self.layout, self.start, self.count);
-        refresh_functions(file, layout, start, count, span, &mut self.rows)
+        if file.len() != self.length {
+            let place = self.length as u32; // at most 2^30, or it would not have been read
+            return Err(Refusal::of(Reason::AnotherLength, place, Place::Bytes));
+        }
+        // A span that is refused is not joined, so that it is still refused.
+        let (low, high) = match span.0 <= span.1 && span.1 <= self.length {
+            true => hull(self.pending, span).unwrap_or(span),
+            false => span,
+        };
+        let rows = self.rows.lent();
+        let read =
+            boundary::refresh_functions(file, layout.number(), start, count, (low, high), rows)?;
+        Ok(Refreshed {
+            file,
+            layout,
+            start,
+            span: (low, high),
+            ids: 0..count,
+            left: read,
+        })
     }
 }
+
+/// The part of a span, or of a reversed one the other way round, that lies in so many bytes.
+fn within((a, b): (usize, usize), length: usize) -> (usize, usize) {
+    (a.min(b).min(length), a.max(b).min(length))
+}
+
+/// The least span that holds both; none where there is no byte to hold.
+fn hull(pending: Option<(usize, usize)>, (low, high): (usize, usize)) -> Option<(usize, usize)> {
+    match pending {
+        Some((from, to)) if low < high => Some((from.min(low), to.max(high))),
+        Some(pending) => Some(pending),
+        None => (low < high).then_some((low, high)),
+    }
+}
+
+impl PartialEq for FunctionTable {
+    fn eq(&self, other: &FunctionTable) -> bool {
+        let of = |table: &FunctionTable| (table.layout, table.start);
+        of(self) == of(other) && self.rows == other.rows
+    }
+}
+
+impl Eq for FunctionTable {}
 
 impl Deref for FunctionTable {
     type Target = [FunctionRow];
@@ -469,3 +777,64 @@ impl Deref for FunctionTable {
         &self.rows
     }
 }
+
+impl<'t> IntoIterator for &'t FunctionTable {
+    type Item = &'t FunctionRow;
+    type IntoIter = slice::Iter<'t, FunctionRow>;
+
+    fn into_iter(self) -> slice::Iter<'t, FunctionRow> {
+        self.iter()
+    }
+}
+
+/// Which functions a refresh read again: it goes through their numbers, rising. How many there are costs nothing to ask;
+/// which ones are looked for while they are asked for.
+///
+/// ```
+/// use bisquepond::{Layout, function};
+///
+/// let mut file = [0; 64];
+/// let mut table = function::read_functions(&file, Layout::Legacy16, 0, 4)?;
+/// file[20] = 7;
+/// file[50] = 7;
+/// let again = table.refresh(&file, 20..51)?;
+/// assert_eq!(again.len(), 3);
+/// for id in again {
+///     println!("function {id}: {:?}", table[id as usize]);
+/// }
+/// # Ok::<(), bisquepond::Refusal>(())
+/// ```
+#[derive(Clone, Debug)]
+#[must_use = "whether it was refused, and what was read again"]
+pub struct Refreshed<'f> {
+    file: &'f [u8],
+    layout: Layout,
+    start: usize,
+    span: (usize, usize),
+    /// Those that are not yet looked at.
+    ids: Range<u32>,
+    /// How many of them were read again.
+    left: u32,
+}
+
+impl Iterator for Refreshed<'_> {
+    type Item = u32;
+
+    fn next(&mut self) -> Option<u32> {
+        if self.left == 0 {
+            return None;
+        }
+        let (file, layout, start, span) = (self.file, self.layout.number(), self.start, self.span);
+        // Exactly the functions that meet the span by the file as it is now were read again.
+        let met = |&id: &u32| boundary::function_meets(file, layout, start, id, span) == Ok(true);
+        let id = self.ids.find(met)?;
+        self.left -= 1;
+        Some(id)
+    }
+
+    fn size_hint(&self) -> (usize, Option<usize>) {
+        (self.left as usize, Some(self.left as usize))
+    }
+}
+
+impl ExactSizeIterator for Refreshed<'_> {}

@@ -2,7 +2,7 @@
 //!
 //! A refused read leaves the position where it was, but for LEB128 and strings: see each.
 
-use crate::Refusal;
+use crate::Result;
 use crate::boundary;
 
 /// Bytes with a position. Its calls have the names that hermes-decomp's reader has.
@@ -33,7 +33,7 @@ impl<'a> ByteReader<'a> {
         ByteReader { bytes, at: 0 }
     }
 
-    /// A reader at any position, past the end too: reads there are refused 2.
+    /// A reader at any position, past the end too: reads there are refused, `PastEnd`.
     ///
     /// ```
     /// use bisquepond::io::ByteReader;
@@ -70,7 +70,11 @@ impl<'a> ByteReader<'a> {
         boundary::remaining(self.bytes, self.at)
     }
 
-    /// Moves to `position`, from wherever it stands. Refused 2 if that is past the end.
+    /// Moves to `position`, from wherever it stands.
+    ///
+    /// # Errors
+    ///
+    /// `TooLong`; `PastEnd` if `position` is past the end.
     ///
     /// ```
     /// let mut reader = bisquepond::io::ByteReader::new(&[5, 6]);
@@ -78,12 +82,15 @@ impl<'a> ByteReader<'a> {
     /// assert_eq!((reader.seek(3).unwrap_err().number, reader.position()), (2, 2));
     /// # Ok::<(), bisquepond::Refusal>(())
     /// ```
-    pub fn seek(&mut self, position: usize) -> Result<(), Refusal> {
+    pub fn seek(&mut self, position: usize) -> Result<()> {
         boundary::seek(self.bytes, &mut self.at, position)
     }
 
-    /// Moves to the next multiple of `alignment`, not at all if it stands on one. Refused 6 if that is 0, 2 if it goes
-    /// past the end.
+    /// Moves to the next multiple of `alignment`, not at all if it stands on one.
+    ///
+    /// # Errors
+    ///
+    /// `TooLong`; `ZeroAlignment`; `PastEnd` if it stands or goes past the end.
     ///
     /// ```
     /// let mut reader = bisquepond::io::ByteReader::at(&[0; 6], 1);
@@ -93,11 +100,15 @@ impl<'a> ByteReader<'a> {
     /// assert_eq!((reader.align(8).unwrap_err().number, reader.position()), (2, 4));
     /// # Ok::<(), bisquepond::Refusal>(())
     /// ```
-    pub fn align(&mut self, alignment: usize) -> Result<(), Refusal> {
+    pub fn align(&mut self, alignment: usize) -> Result<()> {
         boundary::align(self.bytes, &mut self.at, alignment)
     }
 
-    /// The next `len` bytes. Refused 3 if fewer are left.
+    /// The next `len` bytes.
+    ///
+    /// # Errors
+    ///
+    /// `TooLong`; `PastEnd` if it stands past the end; `Cut` if fewer bytes are left.
     ///
     /// ```
     /// let mut reader = bisquepond::io::ByteReader::new(&[5, 6, 7]);
@@ -105,11 +116,15 @@ impl<'a> ByteReader<'a> {
     /// assert_eq!((reader.read_bytes(2).unwrap_err().number, reader.position()), (3, 2));
     /// # Ok::<(), bisquepond::Refusal>(())
     /// ```
-    pub fn read_bytes(&mut self, len: usize) -> Result<&'a [u8], Refusal> {
+    pub fn read_bytes(&mut self, len: usize) -> Result<&'a [u8]> {
         boundary::read_bytes(self.bytes, &mut self.at, len)
     }
 
-    /// The bytes up to the next zero, without it. Refused 9 if there is none: it then stands at the end.
+    /// The bytes up to the next zero, without it.
+    ///
+    /// # Errors
+    ///
+    /// `TooLong`; `PastEnd` if it stands past the end; `NoZero` if there is none: it then stands at the end.
     ///
     /// ```
     /// let mut reader = bisquepond::io::ByteReader::new(b"hi\0ho");
@@ -117,12 +132,16 @@ impl<'a> ByteReader<'a> {
     /// assert_eq!((reader.read_cstring().unwrap_err().number, reader.position()), (9, 5));
     /// # Ok::<(), bisquepond::Refusal>(())
     /// ```
-    pub fn read_cstring(&mut self) -> Result<&'a [u8], Refusal> {
+    pub fn read_cstring(&mut self) -> Result<&'a [u8]> {
         boundary::read_cstring(self.bytes, &mut self.at)
     }
 
-    /// A length as an unsigned LEB128 number, and that many bytes. Refused as the number is, or 3 if fewer bytes are
-    /// left: it then stands after the length.
+    /// A length as an unsigned LEB128 number, and that many bytes.
+    ///
+    /// # Errors
+    ///
+    /// Those of [`read_uleb128`](Self::read_uleb128); `Cut` if fewer bytes are left than the length says: it then stands
+    /// after the length.
     ///
     /// ```
     /// let mut reader = bisquepond::io::ByteReader::new(&[2, b'h', b'i', 9, b'h']);
@@ -131,16 +150,20 @@ impl<'a> ByteReader<'a> {
     /// assert_eq!(reader.position(), 4);
     /// # Ok::<(), bisquepond::Refusal>(())
     /// ```
-    pub fn read_length_prefixed_string(&mut self) -> Result<&'a [u8], Refusal> {
+    pub fn read_length_prefixed_string(&mut self) -> Result<&'a [u8]> {
         boundary::read_length_prefixed_string(self.bytes, &mut self.at)
     }
 }
 
 macro_rules! numbers {
-    ($($(#[$doc:meta])* $name:ident -> $kind:ident, [$($byte:literal),*], $value:literal;)*) => {
+    ($($errors:literal: $($(#[$doc:meta])* $name:ident -> $kind:ident, [$($byte:literal),*], $value:literal;)*)*) => {
         impl ByteReader<'_> {
-            $(
+            $($(
                 $(#[$doc])*
+                ///
+                /// # Errors
+                ///
+                #[doc = $errors]
                 ///
                 /// ```
                 #[doc = concat!("let mut reader = bisquepond::io::ByteReader::new(&[", $(stringify!($byte), ", ",)* "]);")]
@@ -148,32 +171,33 @@ macro_rules! numbers {
                 #[doc = concat!("assert_eq!(reader.", stringify!($name), "().unwrap_err().number, 3);")]
                 /// # Ok::<(), bisquepond::Refusal>(())
                 /// ```
-                pub fn $name(&mut self) -> Result<$kind, Refusal> {
+                pub fn $name(&mut self) -> Result<$kind> {
                     boundary::$name(self.bytes, &mut self.at)
                 }
-            )*
+            )*)*
         }
     };
 }
 
 numbers! {
-    /// A byte. Refused 3 at the end.
+    "`TooLong`; `PastEnd` if it stands past the end; `Cut` if fewer bytes are left than the number has.":
+    /// A byte.
     read_u8 -> u8, [0xFE], "254";
-    /// A signed byte. Refused 3 at the end.
+    /// A signed byte.
     read_i8 -> i8, [0xFE], "-2";
-    /// A number of two bytes. Refused 3 if fewer are left.
+    /// A number of two bytes.
     read_u16 -> u16, [0x34, 0x12], "0x1234";
-    /// A number of four bytes. Refused 3 if fewer are left.
+    /// A number of four bytes.
     read_u32 -> u32, [0x78, 0x56, 0x34, 0x12], "0x1234_5678";
-    /// A number of eight bytes. Refused 3 if fewer are left.
+    /// A number of eight bytes.
     read_u64 -> u64, [1, 0, 0, 0, 0, 0, 0, 0x80], "0x8000_0000_0000_0001";
-    /// A signed number of four bytes. Refused 3 if fewer are left.
+    /// A signed number of four bytes.
     read_i32 -> i32, [0xFE, 0xFF, 0xFF, 0xFF], "-2";
-    /// A double of eight bytes; a NaN is some NaN. Refused 3 if fewer are left.
+    /// A double of eight bytes; a NaN is some NaN.
     read_f64 -> f64, [0, 0, 0, 0, 0, 0, 0xF8, 0x3F], "1.5";
-    /// An unsigned LEB128 number of at most ten bytes: its low 64 bits. Refused 3 if the bytes end before it does, 5 if
-    /// its tenth byte has bit 7 set: it then stands after the last byte looked at.
+    "`TooLong`; `PastEnd` if it stands past the end; `Cut` if the bytes end before the number does, `Leb128TooLong` if its tenth byte has bit 7 set: it then stands after the last byte looked at.":
+    /// An unsigned LEB128 number of at most ten bytes: its low 64 bits.
     read_uleb128 -> u64, [0xB9, 0x64], "12857";
-    /// A signed LEB128 number of at most ten bytes. Refused as [`read_uleb128`](Self::read_uleb128).
+    /// A signed LEB128 number of at most ten bytes.
     read_sleb128 -> i64, [0x80, 0x7F], "-128";
 }

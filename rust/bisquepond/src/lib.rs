@@ -3,7 +3,7 @@
 //! this crate lends it slices and gives its numbers types. It has no dependencies.
 //!
 //! ```
-//! use bisquepond::{Layout, function};
+//! use bisquepond::{Layout, Reason, function};
 //!
 //! // One function, in a table of legacy headers that begins at byte 0.
 //! let file = [0, 1, 0, 4, 0x0A, 0x80, 1, 0, 0, 0, 0, 0x0A, 1, 2, 3, 4];
@@ -12,7 +12,7 @@
 //!
 //! // A header that is cut is refused, with its function's number as the place.
 //! let cut = function::read_functions(&file[..15], Layout::Legacy16, 0, 1).unwrap_err();
-//! assert_eq!((cut.number, cut.place), (3, 0));
+//! assert_eq!((cut.reason(), cut.place), (Reason::Cut, 0));
 //! # Ok::<(), bisquepond::Refusal>(())
 //! ```
 //!
@@ -29,11 +29,20 @@
 //! Each call that fills rows has two forms: one ending in `_into` fills rows that are lent and allocates nothing, the
 //! other allocates what the answer needs. How much that is is decided by the bytes, never by a count alone.
 //!
-//! A call that is refused leaves every lent row as it was.
+//! A call that is refused leaves every lent row as it was. Under *Errors* each call names what it is refused for, in the
+//! order in which it is looked for: the names are those of [`Reason`].
+//!
+//! It is `no_std` with `alloc`. What is linked besides the archive is `memcpy` and `memset`, which every Rust program has.
+//! Calls share no data: any number of threads may make them at once, each with rows of its own.
+//!
+//! Whoever comes from hermes-decomp finds its names in docs/FROM_HERMES_DECOMP.md.
 
+#![no_std]
 #![deny(missing_docs)]
 #![deny(unsafe_code)]
 #![deny(unsafe_op_in_unsafe_fn)]
+
+extern crate alloc;
 
 #[macro_use]
 mod rows;
@@ -49,7 +58,7 @@ pub mod table;
 
 pub use boundary::Row;
 pub use function::Layout;
-pub use refusal::Refusal;
+pub use refusal::{Reason, Refusal, Result};
 pub use rows::Table;
 
 /// The `width` bits of `word` from bit `first`, the least bit being bit 0. Bits past the word are 0.

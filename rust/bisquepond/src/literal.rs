@@ -1,16 +1,25 @@
 //! Literals: one, a series of them, and the keys or values of an object.
 
-use crate::Refusal;
+use alloc::vec;
+use alloc::vec::Vec;
+use core::fmt;
+
+use crate::Result;
 use crate::boundary;
 use crate::io::ByteReader;
 
-/// A literal value.
+/// A literal value. It is shown as `null`, `true`, `false`, a number that has a point or an exponent (`5.0`, `NaN`, `inf`),
+/// an integer that has neither, or `string 7`.
 ///
 /// ```
 /// use bisquepond::literal::{self, Literal};
 ///
 /// let series = literal::read_series(&[0x72, 5, 0, 0, 0, 0xFF, 0xFF, 0xFF, 0xFF, 0x11], 0, 3)?;
 /// assert_eq!(series.values, [Literal::Integer(5), Literal::Integer(-1), Literal::Bool(true)]);
+/// let shown: Vec<String> = series.values.iter().map(Literal::to_string).collect();
+/// assert_eq!(shown, ["5", "-1", "true"]);
+/// assert_eq!(Literal::Number(5.0).to_string(), "5.0");
+/// assert_eq!(format!("{} {}", Literal::Null, Literal::String(7)), "null string 7");
 /// # Ok::<(), bisquepond::Refusal>(())
 /// ```
 #[derive(Clone, Copy, PartialEq, Debug)]
@@ -25,6 +34,18 @@ pub enum Literal {
     String(u32),
     /// An integer.
     Integer(i32),
+}
+
+impl fmt::Display for Literal {
+    fn fmt(&self, f: &mut fmt::Formatter<'_>) -> fmt::Result {
+        match self {
+            Literal::Null => write!(f, "null"),
+            Literal::Bool(truth) => write!(f, "{truth}"),
+            Literal::Number(number) => write!(f, "{number:?}"),
+            Literal::String(number) => write!(f, "string {number}"),
+            Literal::Integer(integer) => write!(f, "{integer}"),
+        }
+    }
 }
 
 impl Literal {
@@ -44,7 +65,9 @@ impl Literal {
 impl ByteReader<'_> {
     /// One value. `tag` is its tag byte, of which bits 4 to 6 count. A float that is a NaN is some NaN.
     ///
-    /// Refused 1; 2 if it stands past the end; 3 if fewer bytes are left than the value has.
+    /// # Errors
+    ///
+    /// `TooLong`; `PastEnd` if it stands past the end; `Cut` if fewer bytes are left than the value has.
     ///
     /// ```
     /// use bisquepond::{io::ByteReader, literal::Literal};
@@ -56,7 +79,7 @@ impl ByteReader<'_> {
     /// assert_eq!(reader.read_literal(0x30).unwrap_err().number, 3);
     /// # Ok::<(), bisquepond::Refusal>(())
     /// ```
-    pub fn read_literal(&mut self, tag: u8) -> Result<Literal, Refusal> {
+    pub fn read_literal(&mut self, tag: u8) -> Result<Literal> {
         let (kind, number, word) = boundary::read_literal(self.bytes, &mut self.at, tag)?;
         Ok(match kind {
             3 => Literal::Number(number),
@@ -150,8 +173,8 @@ fn lent<'a, 't>(
     count: u32,
     kinds: &'t mut [u32],
     payloads: &'t mut [u64],
-    read: impl FnOnce(&mut [u32], &mut [u64]) -> Result<u32, Refusal>,
-) -> Result<LentSeries<'a, 't>, Refusal> {
+    read: impl FnOnce(&mut [u32], &mut [u64]) -> Result<u32>,
+) -> Result<LentSeries<'a, 't>> {
     let used = read(kinds, payloads)?;
     let (kinds, payloads) = (&kinds[..count as usize], &payloads[..count as usize]);
     Ok(LentSeries {
@@ -166,8 +189,8 @@ fn grown<'a>(
     buffer: &'a [u8],
     offset: u32,
     count: u32,
-    mut read: impl FnMut(u32, &mut [u32], &mut [u64]) -> Result<u32, Refusal>,
-) -> Result<Series<'a>, Refusal> {
+    mut read: impl FnMut(u32, &mut [u32], &mut [u64]) -> Result<u32>,
+) -> Result<Series<'a>> {
     const FIRST: u32 = 4096;
     let mut asked = count.min(FIRST);
     loop {
@@ -188,8 +211,10 @@ fn grown<'a>(
 /// `kinds[i]`, and in `payloads[i]` a float's bits, a string's number, an integer as 32-bit two's complement, or 0.
 /// Other words stay.
 ///
-/// Refused 1; 7 if `offset` is at or past the end and `count` is not 0; 4 if a table has fewer than `count` words; 3 if
-/// the bytes end before the values do, with the number of whole values before that as place.
+/// # Errors
+///
+/// `TooLong`; `SeriesPastEnd` if `offset` is at or past the end and `count` is not 0; `TooFewRows` if a table has fewer
+/// than `count` words; `Cut` if the bytes end before the values do, with the number of whole values before that as place.
 ///
 /// ```
 /// use bisquepond::literal;
@@ -210,14 +235,17 @@ pub fn read_series_into<'a, 't>(
     count: u32,
     kinds: &'t mut [u32],
     payloads: &'t mut [u64],
-) -> Result<LentSeries<'a, 't>, Refusal> {
+) -> Result<LentSeries<'a, 't>> {
     lent(buffer, offset, count, kinds, payloads, |kinds, payloads| {
         boundary::read_series(buffer, offset, count, kinds, payloads)
     })
 }
 
-/// The same into memory of its own. Refused so, but never 4; no more is allocated than twice what the bytes hold,
-/// whatever the count.
+/// The same into memory of its own. No more is allocated than twice what the bytes hold, whatever the count.
+///
+/// # Errors
+///
+/// Those of [`read_series_into`], but never `TooFewRows`.
 ///
 /// ```
 /// use bisquepond::literal::{self, Literal};
@@ -229,7 +257,7 @@ pub fn read_series_into<'a, 't>(
 /// assert_eq!((cut.number, cut.place), (3, 258));
 /// # Ok::<(), bisquepond::Refusal>(())
 /// ```
-pub fn read_series(buffer: &[u8], offset: u32, count: u32) -> Result<Series<'_>, Refusal> {
+pub fn read_series(buffer: &[u8], offset: u32, count: u32) -> Result<Series<'_>> {
     grown(buffer, offset, count, |count, kinds, payloads| {
         boundary::read_series(buffer, offset, count, kinds, payloads)
     })
@@ -251,6 +279,10 @@ macro_rules! sides {
             $(
                 #[doc = concat!("Reads `count` ", $word, " from `offset` on, as [`read_series_into`] does; the other buffer is not looked at.")]
                 ///
+                /// # Errors
+                ///
+                /// Those of [`read_series_into`].
+                ///
                 /// ```
                 /// use bisquepond::literal::{Literal, Objects};
                 ///
@@ -266,7 +298,7 @@ macro_rules! sides {
                     count: u32,
                     kinds: &'t mut [u32],
                     payloads: &'t mut [u64],
-                ) -> Result<LentSeries<$of, 't>, Refusal> {
+                ) -> Result<LentSeries<$of, 't>> {
                     let both = [self.keys, self.values];
                     lent(self.$side, offset, count, kinds, payloads, |kinds, payloads| {
                         boundary::read_object(both, $of_keys, offset, count, kinds, payloads)
@@ -274,6 +306,10 @@ macro_rules! sides {
                 }
 
                 #[doc = concat!("Reads `count` ", $word, " from `offset` on, as [`read_series`] does; the other buffer is not looked at.")]
+                ///
+                /// # Errors
+                ///
+                /// Those of [`read_series`].
                 ///
                 /// ```
                 /// use bisquepond::literal::{Literal, Objects};
@@ -284,7 +320,7 @@ macro_rules! sides {
                 #[doc = concat!("assert_eq!(objects.", stringify!($side), "(9, 0)?.used, []);")]
                 /// # Ok::<(), bisquepond::Refusal>(())
                 /// ```
-                pub fn $side(&self, offset: u32, count: u32) -> Result<Series<$of>, Refusal> {
+                pub fn $side(&self, offset: u32, count: u32) -> Result<Series<$of>> {
                     let both = [self.keys, self.values];
                     grown(self.$side, offset, count, |count, kinds, payloads| {
                         boundary::read_object(both, $of_keys, offset, count, kinds, payloads)

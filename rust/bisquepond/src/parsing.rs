@@ -1,10 +1,12 @@
 //! Exception handlers and the sections that follow the tables.
 
-use std::fmt;
+use alloc::vec;
+use core::fmt;
+use core::slice;
 
 use crate::boundary;
 use crate::function::FunctionRow;
-use crate::{Refusal, Table};
+use crate::{Result, Table};
 
 pub use crate::boundary::HandlerRow;
 
@@ -42,7 +44,9 @@ impl fmt::Debug for HandlerRow {
 /// A function has none if its flag is clear, if info_offset is 0 or at or past the end, if its place rounded up to 4
 /// leaves no 4 bytes, if the count there is 0 or above 1000, or if one of its handlers is cut.
 ///
-/// Refused 1; 11 if fewer than `count` functions are lent; 4 if there are more handlers than rows.
+/// # Errors
+///
+/// `TooLong`; `TooFewToRead` if fewer than `count` functions are lent; `TooFewRows` if there are more handlers than rows.
 ///
 /// ```
 /// use bisquepond::{Row, function::FunctionRow, parsing::{self, HandlerRow}};
@@ -64,13 +68,17 @@ pub fn read_handlers_into<'t>(
     functions: &[FunctionRow],
     count: u32,
     rows: &'t mut [HandlerRow],
-) -> Result<&'t [HandlerRow], Refusal> {
+) -> Result<&'t [HandlerRow]> {
     let total = boundary::read_handlers(file, functions, count, rows)?;
     Ok(&rows[..total])
 }
 
-/// The same into a table of its own. Refused so, but never 4. Functions may share handlers, so that a table can be many
-/// times as long as the file: [`count_handlers`] says how long.
+/// The same into a table of its own. Functions may share handlers, so that a table can be many times as long as the file:
+/// [`count_handlers`] says how long. [`handlers_of`] finds those of one function.
+///
+/// # Errors
+///
+/// Those of [`read_handlers_into`], but never `TooFewRows`.
 ///
 /// ```
 /// use bisquepond::{Row, function::FunctionRow, parsing};
@@ -88,13 +96,37 @@ pub fn read_handlers(
     file: &[u8],
     functions: &[FunctionRow],
     count: u32,
-) -> Result<Table<HandlerRow>, Refusal> {
+) -> Result<Table<HandlerRow>> {
     let mut rows = Table::zeros(count_handlers(file, functions, count)?);
-    read_handlers_into(file, functions, count, &mut rows)?;
+    read_handlers_into(file, functions, count, rows.lent())?;
     Ok(rows)
 }
 
-/// How many rows [`read_handlers`] would have. Refused as it is.
+/// The handlers of one function, of rows as [`read_handlers`] and [`read_handlers_into`] answer them, functions rising.
+///
+/// ```
+/// use bisquepond::{Row, function::FunctionRow, parsing};
+///
+/// // Functions 0 and 2 share one handler; function 1 has none.
+/// let file = [0, 0, 0, 0, 1, 0, 0, 0, 10, 0, 0, 0, 20, 0, 0, 0, 30, 0, 0, 0];
+/// let row = |flags| [0, 0, 0, 0, 0, 0, 4, 0, flags, 0, 0, 0, 0, 0, 0, 0];
+/// let words = [row(8), row(0), row(8)].concat();
+/// let handlers = parsing::read_handlers(&file, FunctionRow::rows(&words), 3)?;
+/// assert_eq!(parsing::handlers_of(&handlers, 2)[0].target(), 30);
+/// assert!(parsing::handlers_of(&handlers, 1).is_empty());
+/// # Ok::<(), bisquepond::Refusal>(())
+/// ```
+pub fn handlers_of(rows: &[HandlerRow], function: u32) -> &[HandlerRow] {
+    let first = rows.partition_point(|row| row.function() < function);
+    let rows = &rows[first..];
+    &rows[..rows.partition_point(|row| row.function() == function)]
+}
+
+/// How many rows [`read_handlers`] would have.
+///
+/// # Errors
+///
+/// Those of [`read_handlers`].
 ///
 /// ```
 /// use bisquepond::{Row, function::FunctionRow, parsing};
@@ -107,11 +139,7 @@ pub fn read_handlers(
 /// assert_eq!(parsing::count_handlers(&file, functions, 3).unwrap_err().number, 11);
 /// # Ok::<(), bisquepond::Refusal>(())
 /// ```
-pub fn count_handlers(
-    file: &[u8],
-    functions: &[FunctionRow],
-    count: u32,
-) -> Result<usize, Refusal> {
+pub fn count_handlers(file: &[u8], functions: &[FunctionRow], count: u32) -> Result<usize> {
     let Some(listed) = functions.get(..count as usize) else {
         // Refused 1 or 11, before any row is looked for.
         return boundary::read_handlers(file, functions, count, &mut []);
@@ -120,7 +148,7 @@ pub fn count_handlers(
     let mut room = vec![HandlerRow::default(); MOST];
     let mut total = 0;
     for row in listed.iter().filter(|row| row.has_handlers()) {
-        total += boundary::read_handlers(file, std::slice::from_ref(row), 1, &mut room)?;
+        total += boundary::read_handlers(file, slice::from_ref(row), 1, &mut room)?;
     }
     Ok(total)
 }
@@ -167,8 +195,10 @@ pub struct SectionCounts {
 
 /// Finds the sections from byte `start` on. Nothing is allocated.
 ///
-/// Refused 1; 2 if `start` is past the end; then, section by section, 3 if its bytes and 2 if its padding goes past the
-/// end.
+/// # Errors
+///
+/// `TooLong`; `PastEnd` if `start` is past the end; then, section by section, `Cut` if its bytes and `PastEnd` if its
+/// padding goes past the end.
 ///
 /// ```
 /// use bisquepond::parsing::{self, SectionCounts};
@@ -184,11 +214,7 @@ pub struct SectionCounts {
 /// assert_eq!(parsing::trailing_sections(&[0; 10], 8, counts).unwrap_err().number, 2);
 /// # Ok::<(), bisquepond::Refusal>(())
 /// ```
-pub fn trailing_sections(
-    file: &[u8],
-    start: usize,
-    counts: SectionCounts,
-) -> Result<Sections, Refusal> {
+pub fn trailing_sections(file: &[u8], start: usize, counts: SectionCounts) -> Result<Sections> {
     let SectionCounts {
         regexps,
         storage,

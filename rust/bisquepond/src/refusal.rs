@@ -1,30 +1,36 @@
 //! What a call that is not accepted answers.
 
-use std::fmt;
+use core::fmt;
+use core::hash::{Hash, Hasher};
 
 use crate::sys;
+
+/// What a call answers that may be refused.
+pub type Result<T, E = Refusal> = core::result::Result<T, E>;
 
 /// Why a call was refused: the number of the refusal, and the place where it was met.
 ///
 /// The place is a function, a string, or how many entries or values came before; it is 0 where the call has no such
-/// place. Shown, a refusal is a sentence that says which.
+/// place. Shown, by `{}` or by `{:?}`, a refusal is a sentence that says which; two are equal if number and place are.
 ///
 /// ```
-/// use bisquepond::{Layout, function};
+/// use bisquepond::{Layout, Reason, function};
 ///
 /// // Two functions are asked for, and the bytes hold one header and a half.
 /// let refusal = function::read_functions(&[0; 24], Layout::Legacy16, 0, 2).unwrap_err();
-/// assert_eq!((refusal.number, refusal.place), (3, 1));
+/// assert_eq!((refusal.reason(), refusal.place), (Reason::Cut, 1));
 /// assert_eq!(
 ///     refusal.to_string(),
 ///     "refused 3 at 1: the header or the large header of function 1 runs past the end of the file"
 /// );
+/// // What `main` shows, if it answers a `bisquepond::Result`.
+/// assert_eq!(format!("{refusal:?}"), refusal.to_string());
 /// let error: Box<dyn std::error::Error> = refusal.into();
 /// assert!(error.downcast_ref::<bisquepond::Refusal>().is_some());
 /// ```
-#[derive(Clone, Copy, PartialEq, Eq, Hash, Debug)]
+#[derive(Clone, Copy)]
 pub struct Refusal {
-    /// 1 to 12, as the table in include/hbc.h has it.
+    /// The number that include/hbc.h has for it; from 100 on it is this crate's own.
     pub number: u32,
     /// The function, the string, or how many entries or values came before; else 0.
     pub place: u32,
@@ -32,21 +38,126 @@ pub struct Refusal {
 }
 
 /// What the place of a call counts.
-#[derive(Clone, Copy, PartialEq, Eq, Hash, Debug)]
+#[derive(Clone, Copy)]
 pub(crate) enum Place {
     Nothing,
     Function,
     String,
     Entries,
     Values,
+    Bytes,
 }
 
-/// A lent table has too few rows.
-pub(crate) const TOO_FEW_ROWS: u32 = 4;
+/// Each reason with its number and the words that say it where the call has no better ones.
+macro_rules! reasons {
+    ($($(#[$doc:meta])* $name:ident = $number:literal, $words:literal;)*) => {
+        /// Why a call was refused, by name: what the numbers of include/hbc.h mean. There, the name of `TooLong` is
+        /// `HBC_REFUSED_TOO_LONG`, and so on.
+        ///
+        /// ```
+        /// use bisquepond::{Reason, io::ByteReader};
+        ///
+        /// let refusal = ByteReader::new(b"ab").read_cstring().unwrap_err();
+        /// match refusal.reason() {
+        ///     Reason::NoZero => assert_eq!(refusal.number, 9),
+        ///     other => panic!("{other:?}"),
+        /// }
+        /// assert_eq!(Reason::of(9), Reason::NoZero);
+        /// assert_eq!(Reason::NoZero.to_string(), "a zero-ended string has no zero");
+        /// ```
+        #[derive(Clone, Copy, PartialEq, Eq, Hash, Debug)]
+        #[non_exhaustive]
+        pub enum Reason {
+            $($(#[$doc])* $name,)*
+            /// A number that this version has no name for.
+            Unnamed,
+        }
+
+        impl Reason {
+            /// Every reason that has a name.
+            ///
+            /// ```
+            /// use bisquepond::Reason;
+            ///
+            /// assert!(Reason::ALL.iter().all(|reason| Reason::of(reason.number()) == *reason));
+            /// ```
+            pub const ALL: &[Reason] = &[$(Reason::$name),*];
+
+            /// What that number means.
+            ///
+            /// ```
+            /// use bisquepond::Reason;
+            ///
+            /// assert_eq!((Reason::of(4), Reason::of(99)), (Reason::TooFewRows, Reason::Unnamed));
+            /// ```
+            pub const fn of(number: u32) -> Reason {
+                match number {
+                    $($number => Reason::$name,)*
+                    _ => Reason::Unnamed,
+                }
+            }
+
+            /// Its number; 0 of [`Unnamed`](Reason::Unnamed).
+            ///
+            /// ```
+            /// assert_eq!(bisquepond::Reason::Cut.number(), 3);
+            /// ```
+            pub const fn number(self) -> u32 {
+                match self {
+                    $(Reason::$name => $number,)*
+                    Reason::Unnamed => 0,
+                }
+            }
+        }
+
+        impl fmt::Display for Reason {
+            fn fmt(&self, f: &mut fmt::Formatter<'_>) -> fmt::Result {
+                f.write_str(match self {
+                    $(Reason::$name => $words,)*
+                    Reason::Unnamed => "a refusal that this version has no words for",
+                })
+            }
+        }
+    };
+}
+
+reasons! {
+    /// More than 2^30 bytes are lent.
+    TooLong = 1, "more than 2^30 bytes were lent";
+    /// The cursor or a start stands past the end, or a seek or align goes past it.
+    PastEnd = 2, "a start, seek or align goes past the end of the bytes";
+    /// A read needs bytes past the end.
+    Cut = 3, "a read needs bytes past the end";
+    /// A lent table has too few rows.
+    TooFewRows = 4, "fewer rows were lent than the answer has";
+    /// The tenth byte of a LEB128 number has bit 7 set.
+    Leb128TooLong = 5, "the tenth byte of a LEB128 number has bit 7 set";
+    /// An alignment of 0.
+    ZeroAlignment = 6, "an alignment of 0";
+    /// A series begins at or past the end, and is not empty.
+    SeriesPastEnd = 7, "the series begins at or past the end of its buffer";
+    /// A string needs an overflow pair, and none is left.
+    NoOverflowPair = 8, "a string needs an overflow entry and none is left";
+    /// A zero-ended string has no zero.
+    NoZero = 9, "a zero-ended string has no zero";
+    /// A span is reversed, or goes past the end.
+    BadSpan = 10, "the span is reversed or goes past the end of the file";
+    /// Fewer rows are lent to be read than the count says.
+    TooFewToRead = 11, "fewer rows were lent to be read than the count says";
+    /// A layout that there is not.
+    NoSuchLayout = 12, "there is no such layout: it is legacy16 (0) or modern12 (1)";
+    /// The file has another length than the one that the table was read from. This crate's own.
+    AnotherLength = 100, "the file has another length than the one that the table was read from";
+}
 
 impl Refusal {
+    pub(crate) const fn of(reason: Reason, place: u32, of: Place) -> Refusal {
+        let number = reason.number();
+        Refusal { number, place, of }
+    }
+
     /// The low half of an accepted answer; else the refusal.
-    pub(crate) const fn check(code: u64, of: Place) -> Result<u32, Refusal> {
+    pub(crate) const fn check(code: u64, of: Place) -> Result<u32> {
         match sys::number(code) {
             0 => Ok(sys::place(code)),
             number => Err(Refusal {
@@ -56,49 +167,81 @@ impl Refusal {
             }),
         }
     }
+
+    /// Its name.
+    ///
+    /// ```
+    /// use bisquepond::{Reason, io::ByteReader};
+    ///
+    /// let refusal = ByteReader::new(&[]).read_u8().unwrap_err();
+    /// assert_eq!(refusal.reason(), Reason::Cut);
+    /// ```
+    pub const fn reason(&self) -> Reason {
+        Reason::of(self.number)
+    }
+}
+
+impl PartialEq for Refusal {
+    fn eq(&self, other: &Refusal) -> bool {
+        (self.number, self.place) == (other.number, other.place)
+    }
+}
+
+impl Eq for Refusal {}
+
+impl Hash for Refusal {
+    fn hash<H: Hasher>(&self, state: &mut H) {
+        (self.number, self.place).hash(state);
+    }
 }
 
 impl fmt::Display for Refusal {
     fn fmt(&self, f: &mut fmt::Formatter<'_>) -> fmt::Result {
         let Refusal { number, place, of } = *self;
         write!(f, "refused {number} at {place}: ")?;
-        match (number, of) {
-            (1, _) => write!(f, "more than 2^30 bytes were lent"),
-            (2, Place::Function) if place == 0 => write!(
+        match (self.reason(), of) {
+            (Reason::PastEnd, Place::Function) if place == 0 => write!(
                 f,
                 "the table's start, or the place of function 0's large header, is past the end of the file"
             ),
-            (2, Place::Function) => write!(
+            (Reason::PastEnd, Place::Function) => write!(
                 f,
                 "the place of function {place}'s large header is past the end of the file"
             ),
-            (2, _) => write!(f, "a start, seek or align goes past the end of the bytes"),
-            (3, Place::Function) => write!(
+            (Reason::Cut, Place::Function) => write!(
                 f,
                 "the header or the large header of function {place} runs past the end of the file"
             ),
-            (3, Place::Entries) => write!(f, "the bytes end after {place} whole entries"),
-            (3, Place::Values) => write!(f, "the bytes end after {place} whole values"),
-            (3, _) => write!(f, "a read needs bytes past the end"),
-            (4, _) => write!(f, "fewer rows were lent than the answer has"),
-            (5, _) => write!(f, "the tenth byte of a LEB128 number has bit 7 set"),
-            (6, _) => write!(f, "an alignment of 0"),
-            (7, _) => write!(f, "the series begins at or past the end of its buffer"),
-            (8, _) => write!(f, "string {place} needs an overflow entry and none is left"),
-            (9, _) => write!(f, "a zero-ended string has no zero"),
-            (10, _) => write!(f, "the span is reversed or goes past the end of the file"),
-            (11, _) => write!(f, "fewer rows were lent to be read than the count says"),
-            (12, _) => write!(f, "there is no such layout"),
-            _ => write!(f, "a refusal that this version has no words for"),
+            (Reason::Cut, Place::Entries) => write!(f, "the bytes end after {place} whole entries"),
+            (Reason::Cut, Place::Values) => write!(f, "the bytes end after {place} whole values"),
+            (Reason::NoOverflowPair, Place::String) => {
+                write!(f, "string {place} needs an overflow entry and none is left")
+            }
+            (Reason::AnotherLength, Place::Bytes) => write!(
+                f,
+                "the table was read from a file of {place} bytes, and this one has another length: read it again"
+            ),
+            (reason, _) => write!(f, "{reason}"),
         }
     }
 }
 
-impl std::error::Error for Refusal {}
+/// The sentence itself: it is what `main` shows of an error.
+impl fmt::Debug for Refusal {
+    fn fmt(&self, f: &mut fmt::Formatter<'_>) -> fmt::Result {
+        fmt::Display::fmt(self, f)
+    }
+}
+
+impl core::error::Error for Refusal {}
 
 #[cfg(test)]
 mod tests {
+    extern crate std;
     use super::*;
+    use std::collections::HashSet;
+    use std::string::{String, ToString};
+    use std::vec::Vec;
 
     #[test]
     fn every_number_has_a_sentence_of_its_own() {
@@ -109,7 +252,7 @@ mod tests {
         };
         let sentence = |number| said(number).split_once(": ").unwrap().1.to_string();
         let mut all: Vec<String> = (1..=13).map(sentence).collect();
-        assert_eq!(all[11], "there is no such layout");
+        assert_eq!(all[11], Reason::NoSuchLayout.to_string());
         assert_eq!(all[12], "a refusal that this version has no words for");
         all.sort();
         all.dedup();
@@ -123,5 +266,16 @@ mod tests {
             Refusal::check(u64::from(u32::MAX), Place::Values),
             Ok(u32::MAX)
         );
+    }
+
+    /// What the place counts makes no difference: it is the call's, and not the refusal's.
+    #[test]
+    fn equal_by_number_and_place() {
+        let one = Refusal::of(Reason::Cut, 1, Place::Function);
+        let same = Refusal::of(Reason::Cut, 1, Place::Entries);
+        assert_eq!(one, same);
+        assert_ne!(one, Refusal::of(Reason::Cut, 2, Place::Function));
+        assert_ne!(one, Refusal::of(Reason::PastEnd, 1, Place::Function));
+        assert_eq!(HashSet::from([one, same]).len(), 1);
     }
 }

@@ -1,12 +1,16 @@
 //! Rows in memory of their own, and the calls that answer a row's words.
 
-use std::fmt;
-use std::marker::PhantomData;
-use std::ops::{Deref, DerefMut};
+use alloc::vec;
+use alloc::vec::Vec;
+use core::fmt;
+use core::marker::PhantomData;
+use core::ops::Deref;
+use core::slice;
 
 use crate::boundary::{Row, rows_of, rows_of_mut};
 
-/// Rows in memory of their own. It is a slice of rows: `table[0]`, `table.iter()`, `table.len()`.
+/// Rows in memory of their own. It is a slice of rows, which can be read and not written: `table[0]`, `table.iter()`,
+/// `for row in &table`, `table.len()`.
 ///
 /// ```
 /// use bisquepond::{Layout, function};
@@ -15,6 +19,15 @@ use crate::boundary::{Row, rows_of, rows_of_mut};
 /// let table = function::read_functions(&file, Layout::Modern12, 0, 1)?;
 /// assert_eq!(table.iter().map(|row| row.size()).sum::<u32>(), 10);
 /// # Ok::<(), bisquepond::Refusal>(())
+/// ```
+///
+/// Rows that were read stay what was read:
+///
+/// ```compile_fail,E0594
+/// # use bisquepond::table::{StringRow, Strings};
+/// # let strings = Strings { kinds: &[], small: &[0], overflow: &[], storage: b"a" };
+/// let mut rows = strings.decode(1).unwrap();
+/// rows[0] = StringRow::default();
 /// ```
 #[derive(Clone, PartialEq, Eq)]
 pub struct Table<R> {
@@ -29,6 +42,11 @@ impl<R: Row> Table<R> {
             words: vec![0; rows * R::WORDS],
             rows: PhantomData,
         }
+    }
+
+    /// The rows, to be lent to a call that fills them.
+    pub(crate) fn lent(&mut self) -> &mut [R] {
+        rows_of_mut(&mut self.words)
     }
 
     /// Keeps the first `rows` rows, and memory for no more.
@@ -60,15 +78,18 @@ impl<R: Row> Deref for Table<R> {
     }
 }
 
-impl<R: Row> DerefMut for Table<R> {
-    fn deref_mut(&mut self) -> &mut [R] {
-        rows_of_mut(&mut self.words)
+impl<'t, R: Row> IntoIterator for &'t Table<R> {
+    type Item = &'t R;
+    type IntoIter = slice::Iter<'t, R>;
+
+    fn into_iter(self) -> slice::Iter<'t, R> {
+        self.iter()
     }
 }
 
 impl<R: Row + fmt::Debug> fmt::Debug for Table<R> {
     fn fmt(&self, f: &mut fmt::Formatter<'_>) -> fmt::Result {
-        f.debug_list().entries(self.iter()).finish()
+        f.debug_list().entries(self).finish()
     }
 }
 

@@ -21,7 +21,7 @@ pub const fn place(code: u64) -> u32 {
     code as u32
 }
 
-/// The most bytes that are read: a longer slice is refused 1.
+/// The most bytes that are read: a longer slice is refused 1. `HBC_LIMIT`.
 ///
 /// ```
 /// assert_eq!(bisquepond::sys::LIMIT, 1 << 30);
@@ -57,15 +57,16 @@ unsafe extern "C" {
 
     pub fn hbc_read_literal(s: *const u8, s_len: usize, at: *mut usize, tag: u8, kind: *mut u32, number: *mut f64, word: *mut u32) -> u64;
     pub fn hbc_read_series(s: *const u8, s_len: usize, offset: u32, count: u32, kinds: *mut u32, kinds_len: usize, payloads: *mut u64, payloads_len: usize) -> u64;
-    pub fn hbc_read_object(keys: *const u8, keys_len: usize, values: *const u8, values_len: usize, yes: u32, offset: u32, count: u32, kinds: *mut u32, kinds_len: usize, payloads: *mut u64, payloads_len: usize) -> u64;
+    pub fn hbc_read_object(keys: *const u8, keys_len: usize, values: *const u8, values_len: usize, of_keys: u32, offset: u32, count: u32, kinds: *mut u32, kinds_len: usize, payloads: *mut u64, payloads_len: usize) -> u64;
 
     pub fn hbc_read_functions(file: *const u8, file_len: usize, layout: u32, start: usize, count: u32, table: *mut u32, table_len: usize) -> u64;
     pub fn hbc_refresh_functions(file: *const u8, file_len: usize, layout: u32, start: usize, count: u32, low: usize, high: usize, table: *mut u32, table_len: usize) -> u64;
     pub fn hbc_read_function(file: *const u8, file_len: usize, layout: u32, start: usize, id: u32, table: *mut u32, table_len: usize) -> u64;
+    pub fn hbc_function_ground(file: *const u8, file_len: usize, layout: u32, start: usize, id: u32, header: *mut usize, large: *mut usize) -> u64;
     pub fn hbc_function_meets(file: *const u8, file_len: usize, layout: u32, start: usize, id: u32, low: usize, high: usize) -> u64;
 
     pub fn hbc_read_handlers(file: *const u8, file_len: usize, functions: *const u32, functions_len: usize, count: u32, rows: *mut u32, rows_len: usize, total: *mut usize) -> u64;
-    pub fn hbc_trailing_sections(file: *const u8, file_len: usize, start: usize, regexps: u32, storage: u32, cjs: u32, given: bool, sources: u32, rows: *mut u32, rows_len: usize) -> u64;
+    pub fn hbc_trailing_sections(file: *const u8, file_len: usize, start: usize, regexps: u32, storage: u32, cjs: u32, with_sources: bool, sources: u32, rows: *mut u32, rows_len: usize) -> u64;
 
     pub fn hbc_read_debug(file: *const u8, file_len: usize, offset: u32, strings: *mut u32, strings_len: usize, scopes: *mut u32, scopes_len: usize, names: *mut u32, names_len: usize, callees: *mut u32, callees_len: usize, string_count: *mut usize, scope_count: *mut usize, name_count: *mut usize, callee_count: *mut usize) -> u64;
 }

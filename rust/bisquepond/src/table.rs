@@ -1,10 +1,13 @@
 //! Tables of words and of pairs, and strings.
 
-use std::fmt;
+use alloc::vec;
+use alloc::vec::Vec;
+use core::fmt;
+use core::slice;
 
 use crate::boundary;
 use crate::io::ByteReader;
-use crate::{Refusal, Table};
+use crate::{Result, Table};
 
 pub use crate::boundary::StringRow;
 
@@ -18,8 +21,10 @@ fn entries(reader: &ByteReader<'_>, count: u32, size: usize) -> u32 {
 impl ByteReader<'_> {
     /// Reads `count` words into the first that are lent; other words stay. Kind runs are read so too.
     ///
-    /// Refused 1; 2 if it stands past the end; 4 if fewer than `count` words are lent; 3 if the bytes end before the
-    /// words do, with the count of whole entries before that as place.
+    /// # Errors
+    ///
+    /// `TooLong`; `PastEnd` if it stands past the end; `TooFewRows` if fewer than `count` words are lent; `Cut` if the
+    /// bytes end before the words do, with the count of whole entries before that as place.
     ///
     /// ```
     /// use bisquepond::io::ByteReader;
@@ -32,11 +37,15 @@ impl ByteReader<'_> {
     /// assert_eq!((cut.number, cut.place), (3, 1));
     /// # Ok::<(), bisquepond::Refusal>(())
     /// ```
-    pub fn read_u32_table_into(&mut self, count: u32, words: &mut [u32]) -> Result<(), Refusal> {
+    pub fn read_u32_table_into(&mut self, count: u32, words: &mut [u32]) -> Result<()> {
         boundary::read_u32_table(self.bytes, &mut self.at, count, words)
     }
 
-    /// The same into memory of its own, never more than the bytes left need. Refused so, but never 4.
+    /// The same into memory of its own, never more than the bytes left need.
+    ///
+    /// # Errors
+    ///
+    /// Those of [`read_u32_table_into`](Self::read_u32_table_into), but never `TooFewRows`.
     ///
     /// ```
     /// use bisquepond::io::ByteReader;
@@ -47,7 +56,7 @@ impl ByteReader<'_> {
     /// assert_eq!((cut.number, cut.place), (3, 1));
     /// # Ok::<(), bisquepond::Refusal>(())
     /// ```
-    pub fn read_u32_table(&mut self, count: u32) -> Result<Vec<u32>, Refusal> {
+    pub fn read_u32_table(&mut self, count: u32) -> Result<Vec<u32>> {
         let count = entries(self, count, 4);
         let mut words = vec![0; count as usize];
         self.read_u32_table_into(count, &mut words)?;
@@ -55,7 +64,10 @@ impl ByteReader<'_> {
     }
 
     /// Reads `count` pairs of words into the first that are lent: overflow strings, table entries, shapes, CJS pairs.
-    /// Refused as [`read_u32_table_into`](Self::read_u32_table_into).
+    ///
+    /// # Errors
+    ///
+    /// Those of [`read_u32_table_into`](Self::read_u32_table_into), `TooFewRows` if fewer than `count` pairs are lent.
     ///
     /// ```
     /// use bisquepond::io::ByteReader;
@@ -65,16 +77,16 @@ impl ByteReader<'_> {
     /// assert_eq!(pairs, [[1, 2], [7, 7]]);
     /// # Ok::<(), bisquepond::Refusal>(())
     /// ```
-    pub fn read_pair_table_into(
-        &mut self,
-        count: u32,
-        pairs: &mut [[u32; 2]],
-    ) -> Result<(), Refusal> {
+    pub fn read_pair_table_into(&mut self, count: u32, pairs: &mut [[u32; 2]]) -> Result<()> {
         let words = pairs.as_flattened_mut();
         boundary::read_pair_table(self.bytes, &mut self.at, count, words)
     }
 
-    /// The same into memory of its own, never more than the bytes left need. Refused so, but never 4.
+    /// The same into memory of its own, never more than the bytes left need.
+    ///
+    /// # Errors
+    ///
+    /// Those of [`read_pair_table_into`](Self::read_pair_table_into), but never `TooFewRows`.
     ///
     /// ```
     /// use bisquepond::io::ByteReader;
@@ -85,7 +97,7 @@ impl ByteReader<'_> {
     /// assert_eq!((cut.number, cut.place, reader.position()), (3, 0, 8));
     /// # Ok::<(), bisquepond::Refusal>(())
     /// ```
-    pub fn read_pair_table(&mut self, count: u32) -> Result<Vec<[u32; 2]>, Refusal> {
+    pub fn read_pair_table(&mut self, count: u32) -> Result<Vec<[u32; 2]>> {
         let count = entries(self, count, 8);
         let mut pairs = vec![[0; 2]; count as usize];
         self.read_pair_table_into(count, &mut pairs)?;
@@ -125,8 +137,10 @@ impl Strings<'_> {
     /// Decodes the first strings, as many as the lesser of `count` and the small entries, into the first rows that are
     /// lent, and answers these. Other rows stay.
     ///
-    /// Refused 1 if the storage is longer than 2^30 bytes; 4 if too few rows are lent; 8 if a string needs an overflow
-    /// pair and none is left, with the string as place.
+    /// # Errors
+    ///
+    /// `TooLong` if the storage is longer than 2^30 bytes; `TooFewRows` if too few rows are lent; `NoOverflowPair` if a
+    /// string needs an overflow pair and none is left, with the string as place.
     ///
     /// ```
     /// use bisquepond::table::{StringRow, Strings};
@@ -144,13 +158,17 @@ impl Strings<'_> {
         &self,
         count: u32,
         rows: &'t mut [StringRow],
-    ) -> Result<&'t [StringRow], Refusal> {
+    ) -> Result<&'t [StringRow]> {
         let words = [self.kinds, self.small, self.overflow.as_flattened()];
         let decoded = boundary::decode_strings(count, words, self.storage, rows)?;
         Ok(&rows[..decoded as usize])
     }
 
-    /// The same into a table of its own. Refused so, but never 4.
+    /// The same into a table of its own.
+    ///
+    /// # Errors
+    ///
+    /// Those of [`decode_into`](Self::decode_into), but never `TooFewRows`.
     ///
     /// ```
     /// use bisquepond::table::Strings;
@@ -172,9 +190,9 @@ impl Strings<'_> {
     /// assert_eq!((refusal.number, refusal.place), (8, 1));
     /// # Ok::<(), bisquepond::Refusal>(())
     /// ```
-    pub fn decode(&self, count: u32) -> Result<Table<StringRow>, Refusal> {
+    pub fn decode(&self, count: u32) -> Result<Table<StringRow>> {
         let mut rows = Table::zeros(self.small.len().min(count as usize));
-        self.decode_into(count, &mut rows)?;
+        self.decode_into(count, rows.lent())?;
         Ok(rows)
     }
 }
@@ -242,7 +260,7 @@ impl StringRow {
     /// assert_eq!(StringRow::rows(&[1, 2, 0, 0])[0].bytes(b"abcd"), b"bc");
     /// ```
     pub fn bytes<'a>(&self, storage: &'a [u8]) -> &'a [u8] {
-        string_bytes(storage, std::slice::from_ref(self), 0)
+        string_bytes(storage, slice::from_ref(self), 0)
     }
 }
 

@@ -7,7 +7,7 @@ use bisquepond::io::ByteReader;
 use bisquepond::literal::{self, Literal, Objects};
 use bisquepond::parsing::{self, HandlerRow, SectionCounts};
 use bisquepond::table::{StringRow, Strings};
-use bisquepond::{Layout, Refusal, Row};
+use bisquepond::{Layout, Reason, Refusal, Row};
 
 const P1: [u8; 16] = [0, 1, 0, 4, 0x0A, 0x80, 1, 0, 0, 0, 0, 0x0A, 1, 2, 3, 4];
 const P2: [u8; 12] = [0, 1, 0, 0x44, 0x0A, 0xC0, 0, 0x29, 6, 7, 0x48, 4];
@@ -40,13 +40,13 @@ fn p1_a_legacy_header() {
     let row = function::read_function(&P1, Layout::Legacy16, 0, 0).unwrap();
     let words: Vec<u32> = row.fields().map(|(_, word)| word).collect();
     assert_eq!(words, [0, 256, 2, 10, 3, 0, 5, 4, 1, 2, 3]);
-    assert_eq!(row.layout(), Layout::Legacy16);
+    assert_eq!(row.layout(), Some(Layout::Legacy16));
     let rest = Rest::Legacy16 {
         environment_size: 1,
         read_index: 2,
         write_index: 3,
     };
-    assert_eq!(row.rest(), rest);
+    assert_eq!(row.rest(), Some(rest));
 }
 
 #[test]
@@ -54,7 +54,7 @@ fn p2_a_modern_header() {
     let row = function::read_function(&P2, Layout::Modern12, 0, 0).unwrap();
     assert_eq!((row.offset(), row.param_count(), row.size()), (256, 2, 10));
     assert_eq!((row.name(), row.info_offset(), row.frame_size()), (3, 0, 6));
-    assert_eq!((row.flags(), row.layout()), (4, Layout::Modern12));
+    assert_eq!((row.flags(), row.layout()), (4, Some(Layout::Modern12)));
     let rest = Rest::Modern12 {
         loop_depth: 1,
         number_reg: 4,
@@ -64,7 +64,7 @@ fn p2_a_modern_header() {
         new_object: 1,
         private_name: 0,
     };
-    assert_eq!(row.rest(), rest);
+    assert_eq!(row.rest(), Some(rest));
 }
 
 /// The large header is read at `place`, and the function meets its bytes and no others beyond its own header.
@@ -73,7 +73,9 @@ fn large_at(layout: Layout, mut file: Vec<u8>, place: usize) {
     let row = function::read_function(&file, layout, 0, 0).unwrap();
     assert_eq!(row.offset(), 9);
     let end = place + layout.large_header_size();
-    let meets = |span| function::function_meets(&file, layout, 0, 0, span);
+    let ground = function::function_ground(&file, layout, 0, 0).unwrap();
+    assert_eq!((ground.header, ground.large), (0, Some(place)));
+    let meets = |span| function::function_meets(&file, layout, 0, 0, span).unwrap();
     assert!(meets(place..place + 1) && meets(end - 1..end));
     assert!(!meets(layout.header_size()..place) && !meets(end..file.len()));
 }
@@ -261,13 +263,13 @@ fn refused_1_above_2_to_the_30() {
         storage: &long,
     };
     assert_eq!(refused(strings.decode(0)), (1, 0));
-    assert!(!function::function_meets(
-        &long,
-        Layout::Legacy16,
-        0,
-        0,
-        0..16
-    ));
+    let layout = Layout::Legacy16;
+    let met = function::function_meets(&long, layout, 0, 0, 0..16);
+    assert_eq!(refused(met), (1, 0));
+    assert_eq!(
+        refused(function::function_ground(&long, layout, 0, 0)),
+        (1, 0)
+    );
 }
 
 #[test]
@@ -388,6 +390,23 @@ fn refused_8_no_pair_is_left() {
     );
     let mut rows = [StringRow::default(); 1];
     assert_eq!(strings.decode_into(1, &mut rows).unwrap()[0].byte_len(), 1);
+}
+
+/// Whoever asks what a function is read from, or whether it meets a span, is told where that is no question.
+#[test]
+fn ground_and_span_are_refused() {
+    let layout = Layout::Legacy16;
+    let meets = |start, id, low, high| {
+        let span = std::ops::Range { start: low, end: high };
+        function::function_meets(&P1, layout, start, id, span)
+    };
+    let ground = |start, id| function::function_ground(&P1, layout, start, id);
+    assert_eq!(meets(0, 0, 15, 16), Ok(true));
+    assert_eq!(meets(0, 0, 16, 16), Ok(false));
+    assert_eq!((refused(meets(17, 0, 3, 2)), refused(ground(17, 0))), ((2, 0), (2, 0)));
+    assert_eq!((refused(meets(0, 9, 3, 2)), refused(meets(0, 9, 0, 17))), ((10, 0), (10, 0)));
+    assert_eq!((refused(meets(0, 9, 0, 16)), refused(ground(0, 9))), ((3, 9), (3, 9)));
+    assert_eq!((refused(meets(16, 0, 0, 16)), refused(ground(1, 0))), ((3, 0), (3, 0)));
 }
 
 /// A count that the bytes do not bear out is refused as the lent form refuses it, and costs no memory.
@@ -589,17 +608,208 @@ fn a_refresh_is_a_fresh_read() {
         (256, 3, 1),
     ] {
         let met_by = (0..3).filter(|&id| {
-            let before = function::function_meets(&file, layout, 0, id, at..at + 1);
+            let meets = |file| function::function_meets(file, layout, 0, id, at..at + 1);
+            let before = meets(&file).unwrap();
             let mut after = file.clone();
             after[at] = byte;
-            before || function::function_meets(&after, layout, 0, id, at..at + 1)
+            before || meets(&after).unwrap()
         });
         assert_eq!(met_by.count(), met);
         file[at] = byte;
-        assert_eq!(table.refresh(&file, at..at + 1).unwrap(), met as u32);
+        let again = table.refresh(&file, at..at + 1).unwrap();
+        assert_eq!(again.len(), met);
+        let meets = |id: &u32| function::function_meets(&file, layout, 0, *id, at..at + 1).unwrap();
+        assert!(again.eq((0..3).filter(meets)));
         assert_eq!(
             table,
             function::read_functions(&file, layout, 0, 3).unwrap()
         );
     }
+}
+
+/// Six legacy functions and a large header at byte 200 of 240, which none has yet.
+fn six() -> Vec<u8> {
+    let mut file = P1.repeat(6);
+    file.resize(240, 0);
+    file
+}
+
+/// The table after a refused refresh, a small one that is accepted, and a look at what a fresh read gives.
+fn after_refusal(refused: impl Fn(&mut Vec<u8>) -> (std::ops::Range<usize>, Reason)) {
+    let layout = Layout::Legacy16;
+    let mut file = six();
+    let mut table = function::read_functions(&file, layout, 0, 6).unwrap();
+    let before = table.clone();
+    let (span, reason) = refused(&mut file);
+    let refusal = table.refresh(&file, span).unwrap_err();
+    assert_eq!((refusal.reason(), table == before), (reason, true));
+    // What made it refused is undone, and a byte of function 5 changes; the edit of function 1 stays.
+    file[31] = P1[15];
+    file[84] = 99;
+    let again: Vec<u32> = table.refresh(&file, 84..85).unwrap().collect();
+    assert!(again.contains(&1) && again.contains(&5));
+    assert_eq!(table.pending(), None);
+    assert_eq!(
+        table,
+        function::read_functions(&file, layout, 0, 6).unwrap()
+    );
+    assert_eq!((table[1].size(), table[5].size()), (77, 99));
+}
+
+/// Without the memory of what was refused, function 1 would keep its old size after the second refresh.
+#[test]
+fn what_was_refused_is_not_forgotten() {
+    after_refusal(|file| {
+        // A new size, and a large header at byte 256, past the end.
+        (file[20], file[31]) = (77, OVERFLOW);
+        (20..32, Reason::PastEnd)
+    });
+    // The same bytes, named by a span that goes past the end.
+    after_refusal(|file| {
+        file[20] = 77;
+        (20..241, Reason::BadSpan)
+    });
+    // And by one that is reversed.
+    after_refusal(|file| {
+        file[20] = 77;
+        (std::ops::Range { start: 32, end: 20 }, Reason::BadSpan)
+    });
+}
+
+/// Every refresh of many random edits, some of them refused: a table that was accepted is what a fresh read gives.
+#[test]
+fn random_edits_with_refusals() {
+    let layout = Layout::Legacy16;
+    let (mut file, mut state) = (six(), 1u64);
+    let mut table = function::read_functions(&file, layout, 0, 6).unwrap();
+    let mut random = |bound: usize| {
+        state = state
+            .wrapping_mul(6_364_136_223_846_793_005)
+            .wrapping_add(1_442_695_040_888_963_407);
+        (state >> 33) as usize % bound
+    };
+    let (mut accepted, mut refused) = (0, 0);
+    for _ in 0..4_000 {
+        // Mostly the flags and the places of large headers, which decide what is refused.
+        let at = [16 * random(6) + 15, 16 * random(6), random(240)][random(3)];
+        file[at] = [0, OVERFLOW, 200, random(256) as u8][random(4)];
+        match table.refresh(&file, at..=at) {
+            Ok(again) => {
+                let again: Vec<u32> = again.collect();
+                assert!(again.is_sorted());
+                let fresh = function::read_functions(&file, layout, 0, 6).unwrap();
+                assert_eq!((&table, table.pending()), (&fresh, None));
+                accepted += 1;
+            }
+            Err(_) => {
+                assert!(function::read_functions(&file, layout, 0, 6).is_err());
+                assert!(table.pending().unwrap().contains(&at));
+                refused += 1;
+            }
+        }
+    }
+    assert!(accepted > 300 && refused > 300, "{accepted} {refused}");
+}
+
+#[test]
+fn a_file_of_another_length() {
+    let file = six();
+    let mut table = function::read_functions(&file, Layout::Legacy16, 0, 6).unwrap();
+    for other in [&file[..239], &[&file[..], &[0]].concat(), &[]] {
+        let refusal = table.refresh(other, 0..0).unwrap_err();
+        assert_eq!(
+            (refusal.reason(), refusal.place),
+            (Reason::AnotherLength, 240)
+        );
+        assert_eq!(
+            refusal.to_string(),
+            "refused 100 at 240: the table was read from a file of 240 bytes, and this one has another length: read it again"
+        );
+    }
+    assert_eq!(table.refresh(&file, ..).unwrap().len(), 6);
+}
+
+#[test]
+fn any_range_for_a_refresh() {
+    use std::ops::Bound::{Excluded, Included};
+    let file = six();
+    let mut table = function::read_functions(&file, Layout::Legacy16, 0, 6).unwrap();
+    let mut again = |span: (std::ops::Bound<usize>, std::ops::Bound<usize>)| {
+        table.refresh(&file, span).map(|again| again.len())
+    };
+    assert_eq!(again((Included(16), Included(32))), Ok(2));
+    assert_eq!(again((Excluded(15), Excluded(32))), Ok(1));
+    assert_eq!(
+        refused(again((Excluded(usize::MAX), Included(usize::MAX)))),
+        (10, 0)
+    );
+    for (len, span) in [(6, 0..240), (1, 95..96), (0, 96..240)] {
+        assert_eq!(table.refresh(&file, span).unwrap().len(), len);
+    }
+    assert_eq!(table.refresh(&file, 80..).unwrap().len(), 1);
+    assert_eq!(table.refresh(&file, ..=16).unwrap().len(), 2);
+    let meets = |id| function::function_meets(&file, Layout::Legacy16, 0, id, 95..).unwrap();
+    assert!(meets(5) && !meets(4));
+}
+
+/// A row that no call wrote, with a layout that there is not, is not taken for one of either.
+#[test]
+fn a_row_of_no_layout() {
+    for (word, layout) in [
+        (0, Some(Layout::Legacy16)),
+        (1, Some(Layout::Modern12)),
+        (2, None),
+        (u32::MAX, None),
+    ] {
+        let mut words = [5; 16];
+        words[0] = word;
+        let row = FunctionRow::rows(&words)[0];
+        assert_eq!(
+            (row.layout(), row.rest().is_some()),
+            (layout, layout.is_some())
+        );
+        let own = match layout {
+            Some(Layout::Legacy16) => 3,
+            Some(Layout::Modern12) => 7,
+            None => 0,
+        };
+        assert_eq!(row.fields().count(), 8 + own);
+        let shown = format!("{row:?}");
+        assert_eq!(shown.contains("Modern12"), layout == Some(Layout::Modern12));
+        assert_eq!(
+            shown.contains(&format!("no_such_layout: {word}")),
+            layout.is_none()
+        );
+    }
+}
+
+#[test]
+fn layouts_by_word_and_number() {
+    for layout in [Layout::Legacy16, Layout::Modern12] {
+        assert_eq!(layout.to_string().parse(), Ok(layout));
+        assert_eq!(Layout::try_from(u32::from(layout)), Ok(layout));
+    }
+    assert_eq!(format!("{:>10}", Layout::Legacy16), "  legacy16");
+    for word in ["", "Legacy16", "legacy", "modern12 "] {
+        assert_eq!(refused(word.parse::<Layout>()), (12, 0));
+    }
+}
+
+#[test]
+fn handlers_by_function() {
+    let words: Vec<u32> = [2, 2, 2, 5, 9, 9]
+        .into_iter()
+        .zip(0..)
+        .flat_map(|(function, target)| [function, 0, 0, target])
+        .collect();
+    let rows = HandlerRow::rows(&words);
+    let of = |function| {
+        let rows = parsing::handlers_of(rows, function).iter();
+        rows.map(HandlerRow::target).collect::<Vec<_>>()
+    };
+    assert_eq!((of(2), of(5), of(9)), (vec![0, 1, 2], vec![3], vec![4, 5]));
+    for none in [0, 1, 3, 8, 10, u32::MAX] {
+        assert!(of(none).is_empty());
+    }
+    assert!(parsing::handlers_of(&[], 0).is_empty());
 }

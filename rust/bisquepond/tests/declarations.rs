@@ -1,9 +1,13 @@
 //! Nothing else holds the three writings of a C call together: the Rattle export, include/hbc.h, and the declaration
-//! here. All are brought into the form of the Rust declaration and compared.
+//! here. All are brought into the form of the Rust declaration and compared. So are the names that the header and this
+//! crate have for the same number; and every call that may be refused says for what.
 
-use std::collections::BTreeMap;
+use std::collections::{BTreeMap, BTreeSet};
 use std::fs;
 use std::path::{Path, PathBuf};
+
+use bisquepond::function::FunctionRow;
+use bisquepond::{Layout, Reason, Row, debug, function, parsing, sys, table};
 
 /// A call's name, and its parameters and answer as Rust declares them.
 type Calls = BTreeMap<String, String>;
@@ -88,9 +92,14 @@ fn in_the_header() -> Calls {
     calls
 }
 
+/// Parameters that a caller reads by a better name than the one that they have where they are proved.
+const RENAMED: [(&str, &str); 2] = [("yes", "of_keys"), ("given", "with_sources")];
+
 /// `s: &[u8]` is `s: *const u8, s_len: usize`, and `at: &mut usize` is `at: *mut usize`.
 fn rattle_parameter(text: &str) -> String {
     let (name, kind) = text.split_once(": ").unwrap();
+    let renamed = RENAMED.iter().find(|(proved, _)| *proved == name);
+    let name = renamed.map_or(name, |(_, read)| read);
     let slice = |kind: &str| Some(kind.strip_suffix(']')?.to_string());
     if let Some(kind) = kind.strip_prefix("&mut [").and_then(slice) {
         format!("{name}: *mut {kind}, {name}_len: usize")
@@ -140,4 +149,230 @@ fn header_and_declarations_agree() {
 fn exports_and_declarations_agree() {
     all_in(&exported(), &declared());
     all_in(&declared(), &exported());
+}
+
+/// The header's constants: of `#define HBC_X 5` the name without HBC_, and the number.
+fn constants() -> BTreeMap<String, u32> {
+    let text = fs::read_to_string(repository().join("include/hbc.h")).unwrap();
+    let mut constants = BTreeMap::new();
+    for line in text.lines() {
+        let mut words = line.split_whitespace();
+        let (Some("#define"), Some(name), Some(value)) = (words.next(), words.next(), words.next())
+        else {
+            continue;
+        };
+        let value = value.trim_end_matches('u');
+        let number = match value.strip_prefix("0x") {
+            Some(digits) => u32::from_str_radix(digits, 16),
+            None => value.parse(),
+        };
+        if let (Some(name), Ok(number)) = (name.strip_prefix("HBC_"), number) {
+            assert_eq!(constants.insert(name.to_string(), number), None, "{name}");
+        }
+    }
+    constants
+}
+
+/// `Leb128TooLong` is `LEB128_TOO_LONG`.
+fn upper(name: &str) -> String {
+    let mut out = String::new();
+    for letter in name.chars() {
+        if letter.is_ascii_uppercase() && !out.is_empty() {
+            out.push('_');
+        }
+        out.push(letter.to_ascii_uppercase());
+    }
+    out
+}
+
+/// Every refusal of the header is a reason of the same name and number, and the other way round but for our own.
+#[test]
+fn refusals_have_the_same_names() {
+    let in_c: BTreeMap<String, u32> = constants()
+        .into_iter()
+        .filter_map(|(name, number)| Some((name.strip_prefix("REFUSED_")?.to_string(), number)))
+        .collect();
+    let own = |reason: &&Reason| reason.number() < 100;
+    let here = Reason::ALL.iter().filter(own);
+    let here = here.map(|reason| (upper(&format!("{reason:?}")), reason.number()));
+    assert_eq!(in_c, here.collect());
+    assert_eq!(in_c.len(), 12);
+}
+
+/// A row of these words, counting from 0: each is the word of its own number.
+fn counting<R: Row>() -> R {
+    let words: Vec<u32> = (0..R::WORDS as u32).collect();
+    R::rows(&words)[0]
+}
+
+#[test]
+fn words_and_numbers_have_the_same_names() {
+    let c = constants();
+    let version = env!("CARGO_PKG_VERSION").split('.');
+    let version: Vec<u32> = version.map(|part| part.parse().unwrap()).collect();
+    assert_eq!(
+        version,
+        ["MAJOR", "MINOR", "PATCH"].map(|part| c[&format!("VERSION_{part}")])
+    );
+    let header = fs::read_to_string(repository().join("include/hbc.h")).unwrap();
+    let written = format!("#define HBC_VERSION \"{}\"", env!("CARGO_PKG_VERSION"));
+    assert!(header.contains(&written));
+
+    for (name, words) in [
+        ("FUNCTION", FunctionRow::WORDS),
+        ("STRING", table::StringRow::WORDS),
+        ("HANDLER", parsing::HandlerRow::WORDS),
+        ("TEXT", debug::TextRow::WORDS),
+        ("SCOPE", debug::ScopeRow::WORDS),
+        ("NAME", debug::NameRow::WORDS),
+        ("CALLEE", debug::CalleeRow::WORDS),
+    ] {
+        assert_eq!(c[&format!("{name}_WORDS")] as usize, words, "{name}");
+    }
+    assert_eq!(
+        (c["SECTIONS"], c["SECTION_WORDS"], c["PAIR_WORDS"]),
+        (5, 4, 2)
+    );
+    assert_eq!((c["LIMIT"] as usize, c["NONE"]), (sys::LIMIT, u32::MAX));
+    assert_eq!(c["LAYOUT_LEGACY16"], u32::from(Layout::Legacy16));
+    assert_eq!(c["LAYOUT_MODERN12"], u32::from(Layout::Modern12));
+
+    // Each field's word has its number in a row that counts.
+    for layout in [Layout::Legacy16, Layout::Modern12] {
+        let mut words: Vec<u32> = (0..16).collect();
+        words[0] = layout.into();
+        for (name, at) in FunctionRow::rows(&words)[0].fields() {
+            assert_eq!(c[&format!("FUNCTION_{}", name.to_uppercase())], at);
+        }
+    }
+    assert_eq!(c["FUNCTION_LAYOUT"], 0);
+    let row: table::StringRow = counting();
+    assert_eq!(
+        (c["STRING_START"], c["STRING_LENGTH"]),
+        (row.start(), row.byte_len())
+    );
+    let marked = |mark: u32| {
+        let (mut words, at) = ([0; 4], c["STRING_MARKS"] as usize);
+        words[at] = mark;
+        table::StringRow::rows(&words)[0]
+    };
+    assert!(marked(c["MARK_UTF16"]).is_utf16() && !marked(c["MARK_UTF16"]).is_identifier());
+    assert!(marked(c["MARK_IDENTIFIER"]).is_identifier() && !marked(2).is_utf16());
+    let mut words = [0; 4];
+    words[c["STRING_INVALID"] as usize] = 1;
+    assert!(!table::StringRow::rows(&words)[0].is_valid());
+    let row: parsing::HandlerRow = counting();
+    assert_eq!(
+        (c["HANDLER_FUNCTION"], c["HANDLER_START"]),
+        (row.function(), row.start())
+    );
+    assert_eq!(
+        (c["HANDLER_END"], c["HANDLER_TARGET"]),
+        (row.end(), row.target())
+    );
+    let row: debug::TextRow = counting();
+    assert_eq!(
+        (c["TEXT_START"], c["TEXT_LENGTH"]),
+        (row.start(), row.byte_len())
+    );
+    let row: debug::ScopeRow = counting();
+    assert_eq!(
+        (c["SCOPE_OFFSET"], Some(c["SCOPE_PARENT"])),
+        (row.offset(), row.parent())
+    );
+    assert_eq!(
+        (c["SCOPE_FLAGS"], c["SCOPE_FIRST_NAME"]),
+        (row.flags(), row.first_name())
+    );
+    assert_eq!(c["SCOPE_NAME_COUNT"], row.name_count());
+    let row: debug::NameRow = counting();
+    assert_eq!(Some(c["NAME_STRING"]), row.string());
+    let row: debug::CalleeRow = counting();
+    assert_eq!(
+        (c["CALLEE_ADDRESS"], c["CALLEE_STRING"]),
+        (row.address(), row.string())
+    );
+    for (name, flag) in [
+        ("STRICT", function::FLAG_STRICT),
+        (
+            "HAS_EXCEPTION_HANDLER",
+            function::FLAG_HAS_EXCEPTION_HANDLER,
+        ),
+        ("PROHIBIT_CONSTRUCT", function::FLAG_PROHIBIT_CONSTRUCT),
+        ("OVERFLOWED", function::FLAG_OVERFLOWED),
+    ] {
+        assert_eq!(c[&format!("FLAG_{name}")], flag, "{name}");
+    }
+}
+
+/// The public calls of these sources that answer a `Result`, and which of them lack `# Errors`.
+fn without_errors(text: &str) -> (usize, Vec<String>) {
+    let (mut all, mut lacking, mut docs) = (0, Vec::new(), String::new());
+    let mut lines = text.lines();
+    while let Some(line) = lines.next() {
+        let line = line.trim();
+        if line.starts_with("///") || line.starts_with("#[doc") {
+            docs += line;
+        } else if line.starts_with("pub fn ") || line.starts_with("pub const fn ") {
+            let mut signature = line.to_string();
+            while !signature.ends_with(['{', ';']) {
+                signature += lines.next().unwrap().trim();
+            }
+            if signature.contains("-> Result<") {
+                all += 1;
+                if !docs.contains("# Errors") {
+                    lacking.push(line.to_string());
+                }
+            }
+            docs.clear();
+        } else if line.starts_with('}') {
+            docs.clear();
+        }
+    }
+    (all, lacking)
+}
+
+#[test]
+fn every_call_says_for_what_it_is_refused() {
+    let mut all = 0;
+    for file in fs::read_dir(repository().join("rust/bisquepond/src")).unwrap() {
+        let path = file.unwrap().path();
+        let (calls, lacking) = without_errors(&fs::read_to_string(&path).unwrap());
+        assert_eq!(lacking, Vec::<String>::new(), "{}", path.display());
+        all += calls;
+    }
+    // Those of macros are counted once.
+    assert!(all >= 22, "{all}");
+    // And it sees one that does not.
+    let silent = "/// Reads.\npub fn read(\n    s: &[u8],\n) -> Result<u8> {\n}\n";
+    assert_eq!(
+        without_errors(silent),
+        (1, vec!["pub fn read(".to_string()])
+    );
+}
+
+/// Every name that docs/FROM_HERMES_DECOMP.md gives for ours is somewhere in the sources.
+#[test]
+fn names_of_the_page_are_here() {
+    let page = fs::read_to_string(repository().join("docs/FROM_HERMES_DECOMP.md")).unwrap();
+    let mut sources = String::new();
+    for file in fs::read_dir(repository().join("rust/bisquepond/src")).unwrap() {
+        sources += &fs::read_to_string(file.unwrap().path()).unwrap();
+    }
+    let name = |text: &str| -> Vec<String> {
+        let split = text.split(|c: char| !c.is_alphanumeric() && c != '_');
+        split.map(str::to_string).collect()
+    };
+    let sources: BTreeSet<String> = name(&sources).into_iter().collect();
+    let mut seen = 0;
+    for row in page.lines().filter(|line| line.starts_with("| ")) {
+        let ours = row.rsplit(" | ").next().unwrap();
+        for code in ours.split('`').skip(1).step_by(2) {
+            for word in name(code) {
+                assert!(word.is_empty() || sources.contains(&word), "{word}: {row}");
+                seen += 1;
+            }
+        }
+    }
+    assert!(seen > 150, "{seen}");
 }

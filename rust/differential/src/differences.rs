@@ -3,6 +3,7 @@
 
 use std::fmt::Debug;
 use std::os::unix::process::ExitStatusExt;
+use std::path::PathBuf;
 use std::process::Command;
 
 use bisquepond::Refusal;
@@ -69,14 +70,22 @@ pub enum End {
 
 pub const ABORT: i32 = 6;
 
+/// This program by its process, so that one built meanwhile is not run in its place. Under valgrind, which is told by what it
+/// loads before all else, that process is valgrind's own, and the program is found by its path.
+fn this_program() -> PathBuf {
+    let loaded = std::env::var("LD_PRELOAD").unwrap_or_default();
+    match loaded.contains("vgpreload") {
+        true => std::env::current_exe().expect("a path of this program"),
+        false => format!("/proc/{}/exe", std::process::id()).into(),
+    }
+}
+
 /// Replays these words in a process of its own whose address space is 2,000,000 kilobytes.
 pub fn bounded(words: &[&str]) -> End {
-    // By its process, so that a program built meanwhile is not run in its place.
-    let program = format!("/proc/{}/exe", std::process::id());
     let output = Command::new("sh")
         .arg("-c")
         .arg("ulimit -c 0; ulimit -v 2000000; exec \"$0\" --replay \"$@\"")
-        .arg(program)
+        .arg(this_program())
         .args(words)
         .output()
         .expect("a shell");

@@ -8,16 +8,17 @@ use harness::{count, Random};
 
 use crate::case::{parsed, Compare, Compared, Difference, Words};
 use crate::hostile::Soak;
+use crate::record;
 
 const USAGE: &str = "usage: differential [--seconds N] [--seed S] [--full] [LAYER..]
        differential --hostile [--seconds N] [--seed S] [--full] [LAYER..]
-       differential [--seed S] --record FILE [LAYER]
+       differential [--seed S] --record FILE [LAYER..]
        differential --replay LAYER WORD..
 Compares every layer, or those named. Fixed inputs are always compared whole; random ones until N seconds have
 passed in all (default 20). --full adds inputs that need 8 GB of memory and many minutes. --hostile compares inputs
 that are made to take long instead, up to 2^30 bytes, and judges the time and memory of each call. --record writes a sample
-of the Rust's answers, as LAYER_vectors reads it; the layer is io if none is named. --replay compares one
-input, in the words that a difference prints.";
+of the Rust's answers, as the program replay reads it. --replay compares one input, in the words that a difference
+prints.";
 
 pub struct Layer {
     pub name: &'static str,
@@ -136,17 +137,10 @@ pub fn main(layers: &[Layer]) -> ExitCode {
         Err(why) => return bad_usage(why),
     };
     let find = |word: &String| layers.iter().find(|layer| layer.name == word);
-    if asked.replay || asked.record.is_some() {
-        let layer = match asked.words.first() {
-            None if !asked.replay => layers.first(),
-            word => word.and_then(find),
-        };
-        let Some(layer) = layer else {
-            return bad_usage("no such layer");
-        };
-        return match asked.record {
-            Some(file) => record(layer, asked.seed, &file),
-            None => replay(layer, &asked.words[1..]),
+    if asked.replay {
+        return match asked.words.first().and_then(find) {
+            Some(layer) => replay(layer, &asked.words[1..]),
+            None => bad_usage("no such layer"),
         };
     }
     if let Some(word) = asked.words.iter().find(|word| find(word).is_none()) {
@@ -156,9 +150,10 @@ pub fn main(layers: &[Layer]) -> ExitCode {
         [] => layers.iter().collect(),
         words => words.iter().filter_map(find).collect(),
     };
-    match asked.hostile {
-        true => soak(&chosen, &asked),
-        false => compare(&chosen, &asked),
+    match (&asked.record, asked.hostile) {
+        (Some(file), _) => write(&chosen, asked.seed, file),
+        (None, true) => soak(&chosen, &asked),
+        (None, false) => compare(&chosen, &asked),
     }
 }
 
@@ -212,11 +207,16 @@ fn report(Difference(lines): Difference) -> ExitCode {
     ExitCode::from(1)
 }
 
-fn record(layer: &Layer, seed: u64, file: &str) -> ExitCode {
-    let (bytes, lines) = (layer.record)(Random::new(seed));
-    for line in lines {
-        println!("{line}");
+fn write(layers: &[&Layer], seed: u64, file: &str) -> ExitCode {
+    let mut bytes = Vec::new();
+    for layer in layers {
+        let (sample, lines) = (layer.record)(Random::new(seed));
+        bytes.extend(sample);
+        for line in lines {
+            println!("{line}");
+        }
     }
+    assert!(bytes.len() <= record::MOST_BYTES, "{} bytes are too many for replay", bytes.len());
     match std::fs::write(file, &bytes) {
         Ok(()) => {
             println!("{} bytes written to {file}", count(bytes.len() as u64));

@@ -1,3 +1,4 @@
+use mathlib.Core.Path.{refl}
 use lib.Pow.{pow-pos}
 use native.Mathlib.Omega.{arith}
 use Rattle.hbc_bits.specs.Bits.{field}
@@ -26,7 +27,7 @@ rem-result c = rw (one-shl _ (c .if2 .left)) (pow-pos _)
 
 returns-3 : tie.Need-returns-3
 unfolding field
-returns-3 c = rw (one-shl _ (c .if2 .left))
+returns-3 c = rw (one-shl _ (c .if2 .left)) refl
 
 pub bits-spec : {M : Type 1} → statement M
 bits-spec =

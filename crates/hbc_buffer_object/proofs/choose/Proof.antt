@@ -46,11 +46,11 @@ stayed = (stay-none-slice (0 ∷ []) tt (plain (λ _. u8)) yes, (stay-none-slice
 abbrev slice : ℕ → Ty
 slice n = sliceTy (tyRef (named n) imm (tyInt w8))
 
-of-yes : (c : Bool) (a b : List ℕ) → Holds c → a ≡ cond c a b
+of-yes : (c : Bool) (a b : RefT (List ℕ)) → Holds c → a ≡ cond c a b
 of-yes true a b h = refl
 of-yes false a b h = absurd h
 
-of-no : (c : Bool) (a b : List ℕ) → Holds (not c) → b ≡ cond c a b
+of-no : (c : Bool) (a b : RefT (List ℕ)) → Holds (not c) → b ≡ cond c a b
 of-no true a b h = absurd h
 of-no false a b h = refl
 
@@ -82,7 +82,7 @@ module _ {M : Type 1} (𝓤 : URA M) (H : Heap 𝓤) (A : Atoms 𝓤) (W : Given
   exits-values : Holds (not c) → ent 𝓤 Entry (Post mv)
   exits-values h =
       qed W ((‵ (flft κk qk) ⊛ ‵ (flft κv qv) ⊛ ‵ (flft κr qr) ⊛ ‵ ftrue) ∷ ‵ (owns (ShrSlice (named 0) κk u8 ∷ ShrSlice (named 1) κv u8 ∷ Boolean ∷ []) (k, (v, (c, tt))) at) ∷ []) ∵
-      suffices ! _ (ends-at 𝓤 H A choose.ended stayed (choose.clauses 𝓤 H A mem run) W bound mv v (tt, (tt, (tt, tt))) (tt, (tt, (tt, tt)))) $ says ! (of-no c (k .now) (v .now) h) $
+      suffices ! _ (ends-at 𝓤 H A choose.ended stayed (choose.clauses 𝓤 H A mem run) W bound mv v (tt, (tt, (tt, tt))) (tt, (tt, (tt, tt)))) $ says ! (of-no c k v h) $
       frame ! $ fsplit ! $ move ! (1 ∷ []) $ fsplit ! $ use1 W (‵ Ov ⊛ ‵ Ov) (shr-slice-copy 𝓤 H A W (named 1) κv u8 .twice v (mv ∷ [])) $ split ! $
       move ! (0 ∷ 2 ∷ []) $ fjoin ! $ move ! (2 ∷ 0 ∷ []) $ fjoin ! $ frame ! $
       fsplit3 ! $ move ! (2 ∷ []) $
@@ -92,7 +92,7 @@ module _ {M : Type 1} (𝓤 : URA M) (H : Heap 𝓤) (A : Atoms 𝓤) (W : Given
   exits-keys : Holds c → ent 𝓤 Entry (Post mk)
   exits-keys h =
       qed W ((‵ (flft κk qk) ⊛ ‵ (flft κv qv) ⊛ ‵ (flft κr qr) ⊛ ‵ ftrue) ∷ ‵ (owns (ShrSlice (named 0) κk u8 ∷ ShrSlice (named 1) κv u8 ∷ Boolean ∷ []) (k, (v, (c, tt))) at) ∷ []) ∵
-      suffices ! _ (ends-at 𝓤 H A choose.ended stayed (choose.clauses 𝓤 H A mem run) W bound mk k (tt, (tt, (tt, tt))) (tt, (tt, (tt, tt)))) $ says ! (of-yes c (k .now) (v .now) h) $
+      suffices ! _ (ends-at 𝓤 H A choose.ended stayed (choose.clauses 𝓤 H A mem run) W bound mk k (tt, (tt, (tt, tt))) (tt, (tt, (tt, tt)))) $ says ! (of-yes c k v h) $
       frame ! $ fsplit ! $ use1 W (‵ Ok ⊛ ‵ Ok) (shr-slice-copy 𝓤 H A W (named 0) κk u8 .twice k (mk ∷ [])) $ split ! $
       move ! (0 ∷ 2 ∷ []) $ fjoin ! $ frame ! $
       fsplit3 ! $ move ! (2 ∷ []) $

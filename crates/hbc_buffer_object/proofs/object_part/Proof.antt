@@ -1,7 +1,7 @@
 -- `object_part` meets its contract: a walk by hand, of two calls. `choose` shortens the borrow, and `part` takes the part; what they are told stands
 -- in the fields of the answer that is passed.
 -- Assumes nothing.
-use mathlib.Core.Path.{_≡_, refl, _∙_, ap}
+use mathlib.Core.Path.{_≡_, refl, subst}
 use mathlib.Core.Bool.{Bool, cond}
 use Prim.Native.Nat.{ℕ, _<_, _^_}
 use mathlib.Core.List.{List, [], _∷_}
@@ -28,7 +28,7 @@ use denote.Laws.{Is, shows}
 use denote.Struct.Laws as LL
 use denote.Plain.{Boolean, bool-makes, uint-makes}
 use denote.Builtin.{u8, usize}
-use denote.Ref.{RefT, now}
+use denote.Ref.{RefT}
 use denote.Signature.{plain}
 use denote.Slice.{sliceVal, ShrSlice, slice-vals, shr-slice-tells, shr-slice-lawful, shr-slice-copy}
 use denote.Steps.{owned, peeks, heard, nothing}
@@ -40,7 +40,7 @@ use denote.Triple.Table.{entered, cited}
 use denote.Triple.Walked.{says, Stays, stay-none-slice, stay-none, walkOf, goes-none-slice, goes-none, Walks, ends-at, walked, walk-meets}
 use denote.Triple.Clauses.{ensured, lasts}
 use denote.Exit.{yes}
-use Rattle.hbc_buffer_object.specs.Object.{bytesOf}
+use Rattle.hbc_io.specs.Plain.{spanOf, IsPart}
 use Rattle.hbc_buffer_object.specs.declared.Object.{Object}
 use Rattle.hbc_buffer_object.proofs.Object as T
 use Rattle.hbc_buffer_object.proofs.Object.Laws as T′
@@ -90,8 +90,8 @@ module _ {M : Type 1} (𝓤 : URA M) (H : Heap 𝓤) (A : Atoms 𝓤) (W : Given
   abbrev at : List Val × (List Val × (List Val × Unit {0}))
   at = (mk ∷ [], (mv ∷ [], (mo ∷ [], tt)))
 
-  abbrev chosen : List ℕ
-  chosen = cond c (now k) (now v)
+  abbrev chosen : RefT (List ℕ)
+  chosen = cond c k v
 
   abbrev bound : walkOf 𝓤 H A used.ended stayed (used.clauses 𝓤 H A mem run) .Ghost
   bound = (((κk, (κv, (κr, tt))), (qk, (qv, (qr, tt))), bounds, (k, (v, (o, tt))), at), tt)
@@ -130,8 +130,8 @@ module _ {M : Type 1} (𝓤 : URA M) (H : Heap 𝓤) (A : Atoms 𝓤) (W : Given
       move ! (4 ∷ 0 ∷ []) $ use2 W (raw (Choose 𝓤 H A mem run .pre to-choose)) (qed W ((‵ (flft κk qk) ⊛ ‵ (flft κv qv) ⊛ ‵ (flft κr qr) ⊛ ‵ ftrue) ∷ ‵ (owns (ShrSlice (named 0) κk u8 ∷ ShrSlice (named 1) κv u8 ∷ Boolean ∷ []) (k, (v, (c, tt))) (mk ∷ [], (mv ∷ [], (vbool c ∷ [], tt)))) ∷ []) ∵ join ! $ frame ! $ done !) $
       frame ! $ move ! (1 ∷ []) $ frame ! $ move ! (1 ∷ []) $ frame ! $ done !
 
-  choose-said : (r : RefT (List ℕ)) → ent 𝓤 (ensured 𝓤 H A choose.ended (choose.clauses 𝓤 H A mem run) (κk, (κv, (κr, tt))) (k, (v, (c, tt))) tt r) (fact 𝓤 (now r ≡ chosen))
-  choose-said r = exE 𝓤 _ (λ ws. snd∗ 𝓤 (sem 𝓤 H A (lasts choose.ended (κk, (κv, (κr, tt))) (k, (v, (c, tt))) ws)) (fact 𝓤 (now r ≡ chosen)))
+  choose-said : (r : RefT (List ℕ)) → ent 𝓤 (ensured 𝓤 H A choose.ended (choose.clauses 𝓤 H A mem run) (κk, (κv, (κr, tt))) (k, (v, (c, tt))) tt r) (fact 𝓤 (r ≡ chosen))
+  choose-said r = exE 𝓤 _ (λ ws. snd∗ 𝓤 (sem 𝓤 H A (lasts choose.ended (κk, (κv, (κr, tt))) (k, (v, (c, tt))) ws)) (fact 𝓤 (r ≡ chosen)))
 
   abbrev to-part : RefT (List ℕ) → Val → Part 𝓤 H A mem run .Ghost
   to-part r u = (((κr, tt), (qr, tt), tt, (r, (n, (m, tt))), (u ∷ [], (vint w64 n ∷ [], (vint w64 m ∷ [], tt)))), tt)
@@ -146,10 +146,10 @@ module _ {M : Type 1} (𝓤 : URA M) (H : Heap 𝓤) (A : Atoms 𝓤) (W : Given
       use2 W (raw (Part 𝓤 H A mem run .pre (to-part r u))) (qed W ((‵ (flft κr qr) ⊛ ‵ ftrue) ∷ ‵ (owns (ShrSlice (named 0) κr u8 ∷ usize ∷ usize ∷ []) (r, (n, (m, tt))) (u ∷ [], (vint w64 n ∷ [], (vint w64 m ∷ [], tt)))) ∷ []) ∵ join ! $ frame ! $ done !) $
       frame ! $ frame ! $ done !
 
-  part-said : (r t : RefT (List ℕ)) → ent 𝓤 (ensured 𝓤 H A part.ended (part.clauses 𝓤 H A mem run) (κr, tt) (r, (n, (m, tt))) tt t) (fact 𝓤 (now t ≡ bytesOf (now r) n m))
-  part-said r t = exE 𝓤 _ (λ ws. snd∗ 𝓤 (sem 𝓤 H A (lasts part.ended (κr, tt) (r, (n, (m, tt))) ws)) (fact 𝓤 (now t ≡ bytesOf (now r) n m)))
+  part-said : (r t : RefT (List ℕ)) → ent 𝓤 (ensured 𝓤 H A part.ended (part.clauses 𝓤 H A mem run) (κr, tt) (r, (n, (m, tt))) tt t) (fact 𝓤 (IsPart r (spanOf n m) t))
+  part-said r t = exE 𝓤 _ (λ ws. snd∗ 𝓤 (sem 𝓤 H A (lasts part.ended (κr, tt) (r, (n, (m, tt))) ws)) (fact 𝓤 (IsPart r (spanOf n m) t)))
 
-  exits : (t : RefT (List ℕ)) (u : Val) → now t ≡ bytesOf chosen n m
+  exits : (t : RefT (List ℕ)) (u : Val) → IsPart chosen (spanOf n m) t
       → ent 𝓤 (⋆ 𝓤 H A (‵ (Or t u) ∷ (‵ (flft κr qr) ⊛ ‵ ftrue) ∷ (‵ (flft κv qv) ⊛ ‵ (flft κk qk)) ∷ (‵ Ov ⊛ ‵ Ok ⊛ ‵ Oo) ∷ [])) (Post u)
   exits t u e =
       qed W (‵ (Or t u) ∷ (‵ (flft κr qr) ⊛ ‵ ftrue) ∷ (‵ (flft κv qv) ⊛ ‵ (flft κk qk)) ∷ (‵ Ov ⊛ ‵ Ok ⊛ ‵ Oo) ∷ []) ∵
@@ -169,20 +169,20 @@ module _ {M : Type 1} (𝓤 : URA M) (H : Heap 𝓤) (A : Atoms 𝓤) (W : Given
         move ! (10 ∷ []) $ use1 W (raw (Choose 𝓤 H A mem run .pre to-choose) ⊛ (‵ Ov ⊛ ‵ Ok ⊛ ‵ Oo)) goes-choose $ split ! $
         calls-at ! fm (Choose 𝓤 H A mem run) known-choose to-choose (and-then ! (load ! (from ! (stop !)) (look ! 8 refl)) (and-then ! (load ! (from ! (stop !)) (look ! 6 refl)) (and-then ! (load ! (from ! (fld ! refl (stop !))) (look-in ! 4 (sub ! 0 refl (whole !)))) (no-more !)))) (λ u.
         use1 W (later (some (λ (r : RefT (List ℕ)). ((‵ (flft κk qk) ⊛ ‵ (flft κv qv) ⊛ ‵ (flft κr qr) ⊛ ‵ ftrue) ⊛ ‵ (Or r u)) ⊛ raw (ensured 𝓤 H A choose.ended (choose.clauses 𝓤 H A mem run) (κk, (κv, (κr, tt))) (k, (v, (c, tt))) tt r)))) (id⊢ 𝓤 _) $ await ! tt $ pick ! (λ r.
-        split ! $ move ! (1 ∷ []) $ use1 W (raw (fact 𝓤 (now r ≡ chosen))) (choose-said r) $ heard ! (now r ≡ chosen) (λ e. split ! $ move ! (1 ∷ []) $
+        split ! $ move ! (1 ∷ []) $ use1 W (raw (fact 𝓤 (r ≡ chosen))) (choose-said r) $ heard ! (r ≡ chosen) (λ e. split ! $ move ! (1 ∷ []) $
         -- [the borrow; the tokens; values and keys; room for _6; …]
         peeks ! (ShrSlice (named 2) κr u8) (Is (ShrSlice (named 2) κr u8)) (shows 𝓤 H A (ShrSlice (named 2) κr u8)) r (u ∷ []) (λ is.
         land ! (from ! (stop !)) (init ! 3 refl (shr-slice-lawful 𝓤 H A W erased κr u8 .typed r (u ∷ []) is .0)) $
         use2 W (raw (Part 𝓤 H A mem run .pre (to-part r u)) ⊛ (‵ (flft κv qv) ⊛ ‵ (flft κk qk))) (goes-part r u) $ split ! $
         calls-at ! fm (Part 𝓤 H A mem run) known-part (to-part r u) (and-then ! (load ! (from ! (stop !)) (look ! 3 refl)) (and-then ! (load ! (from ! (fld ! refl (stop !))) (look-in ! 5 (sub ! 1 refl (whole !)))) (and-then ! (load ! (from ! (fld ! refl (stop !))) (look-in ! 5 (sub ! 2 refl (whole !)))) (no-more !)))) (λ u′.
         use1 W (later (some (λ (t : RefT (List ℕ)). ((‵ (flft κr qr) ⊛ ‵ ftrue) ⊛ ‵ (Or t u′)) ⊛ raw (ensured 𝓤 H A part.ended (part.clauses 𝓤 H A mem run) (κr, tt) (r, (n, (m, tt))) tt t)))) (id⊢ 𝓤 _) $ await ! tt $ pick ! (λ t.
-        split ! $ move ! (1 ∷ []) $ use1 W (raw (fact 𝓤 (now t ≡ bytesOf (now r) n m))) (part-said r t) $ heard ! (now t ≡ bytesOf (now r) n m) (λ e′. split ! $ move ! (1 ∷ []) $
+        split ! $ move ! (1 ∷ []) $ use1 W (raw (fact 𝓤 (IsPart r (spanOf n m) t))) (part-said r t) $ heard ! (IsPart r (spanOf n m) t) (λ e′. split ! $ move ! (1 ∷ []) $
         -- [the result; its token; the others; values and keys; _6; …; room for _0; …]
         peeks ! (ShrSlice (named 2) κr u8) (Is (ShrSlice (named 2) κr u8)) (shows 𝓤 H A (ShrSlice (named 2) κr u8)) t (u′ ∷ []) (λ is′.
         land ! (from ! (stop !)) (init ! 12 refl (shr-slice-lawful 𝓤 H A W (named 2) κr u8 .typed t (u′ ∷ []) is′ .0)) $
         returns ! (look ! 12 refl) $ forget ! 4 refl $ forget ! 6 refl $ forget ! 8 refl $ forget ! 10 refl $ forget ! 12 refl $
         move ! (12 ∷ 13 ∷ []) $ free1 ! $ move ! (10 ∷ 11 ∷ []) $ free1 ! $ move ! (8 ∷ 9 ∷ []) $ free1 ! $ move ! (6 ∷ 7 ∷ []) $ free1 ! $ move ! (4 ∷ 5 ∷ []) $ free1 ! $ free0 ! $
-        by ! (exits t u′ (e′ ∙ ap (λ (x : List ℕ). bytesOf x n m) e)))))))))))))))
+        by ! (exits t u′ (subst (λ (x : RefT (List ℕ)). IsPart x (spanOf n m) t) e e′)))))))))))))))
 
 module _ {M : Type 1} (𝓤 : URA M) (H : Heap 𝓤) (A : Atoms 𝓤) (W : Given 𝓤 H A) (mem : Memory → SProp 𝓤) (run : Routine → Fun 𝓤) where
   used-walks : (C : Calls 𝓤 H) (Λ : Loops 𝓤 H) → FmC 𝓤 H (W .laws) C → Triple 𝓤 (C #hbc_buffer_object·choose) (Choose 𝓤 H A mem run) → Triple 𝓤 (C #hbc_buffer_object·part) (Part 𝓤 H A mem run)

@@ -1,14 +1,12 @@
-use mathlib.Core.Path.{refl, ap, _∙_}
+use mathlib.Core.Path.{refl, ap, sym, _∙_}
 use native.Mathlib.Omega.{arith}
-use lib.ListN.{length}
-use denote.Ref.{now}
 use Rattle.hbc_io.specs.Answer.{gives, refuses, refusedAt}
-use Rattle.hbc_io.proofs.Exits.{stop, past, given, refused}
-use Rattle.hbc_function.proofs.Laws.{row-put}
+use Rattle.hbc_io.proofs.Exits.{stop, past}
+use Rattle.hbc_function_header.specs.Header.{saysFunction}
 use Rattle.hbc_c_code.specs.Code.{codeOf}
 use Rattle.hbc_c_code.proofs.Tolds.{told-by}
 use Rattle.hbc_c_function.specs.Function.{rowAnswer}
-use Rattle.hbc_c_function.proofs.OneRow.{row-is}
+use Rattle.hbc_c_function.proofs.OneRow.{row-read, row-kept}
 use borrow.Author.Needs.{needs}
 use Rattle.hbc_c_function.proofs.read_row.Statement.{statement}
 use Rattle.hbc_c_function.proofs.read_row.Tie as tie
@@ -43,23 +41,20 @@ returns-3 : tie.Need-returns-3
 unfolding rowAnswer
 returns-3 c = told-by {b = refusedAt 4 0} (past _ _ _ _ (omega arith) (past _ _ _ _ (omega arith) (stop _ _ _ _ (omega arith) refl refl))) refl (c .code3 .ensures ∙ ap codeOf (c .before .refuse3 .ensures))
 
-check-function-requires : tie.Need-check-function-requires
-check-function-requires c κs = search needs
+read-function-requires : tie.Need-read-function-requires
+read-function-requires c κs = search needs
 
-enum-told : tie.Need-enum-told
-enum-told c = search needs
+enum-known-made : tie.Need-enum-known-made
+enum-known-made c = search needs
 
-sub-function-row : tie.Need-sub-function-row
-sub-function-row c = search needs
+row-words-requires : tie.Need-row-words-requires
+row-words-requires c κs = search needs
 
-part-function-row-start : tie.Need-part-function-row-start
-part-function-row-start c = search needs
+slice-aggregate-put-row : tie.Need-slice-aggregate-put-row
+slice-aggregate-put-row c = search needs
 
-part-function-row-end : tie.Need-part-function-row-end
-part-function-row-end c = search needs
-
-function-row-requires : tie.Need-function-row-requires
-function-row-requires c κs = search needs
+put-row-requires : tie.Need-put-row-requires
+put-row-requires c κs = search needs
 
 enum-known-r : tie.Need-enum-known-r
 enum-known-r c = search needs
@@ -71,14 +66,10 @@ same-length : tie.Need-same-length
 same-length c = search needs
 
 returns-4 : tie.Need-returns-4
-returns-4 c =
-    let e = row-is _ _ _ _ (length (now (c .before .before .before .before .before .before .before .before .before .before .before .before .args .table))) (omega arith) (omega arith) (omega arith) (c .before .before .before .before .before .before .check-function .ensures) (c .before .before .before .before .enum-told .given .1) in
-    told-by {b = gives tt} (given refl e (row-put _ _ _ _ 0 _ (omega arith) (omega arith) (omega arith) (c .before .before .function-row .ensures))) refl refl
+returns-4 c = told-by {b = gives tt} (row-read _ _ _ _ _ (omega arith) (omega arith) (omega arith) (sym (ap saysFunction (c .before .before .before .before .before .before .before .made .given .1)) ∙ (c .before .before .before .before .before .before .before .before .before .read-function .ensures)) (c .before .before .before .before .before .row-words .ensures) (c .before .before .put-row .ensures)) refl refl
 
 returns-5 : tie.Need-returns-5
-returns-5 c =
-    let e = row-is _ _ _ _ (length (now (c .before .before .before .before .before .before .before .before .before .before .args .table))) (omega arith) (omega arith) (omega arith) (c .before .before .before .before .check-function .ensures) (c .before .before .r .given .1) in
-    told-by {b = refuses (c .before .before .r .given .0 .0)} (refused refl e) refl (c .code4 .ensures)
+returns-5 c = told-by {b = refuses (c .before .before .r .given .0 .0)} (row-kept _ _ _ _ _ (omega arith) (omega arith) (omega arith) (sym (ap saysFunction (c .before .before .r .given .1)) ∙ (c .before .before .before .before .read-function .ensures))) refl (c .code4 .ensures)
 
 pub read-row-spec : {M : Type 1} → statement M
 read-row-spec =
@@ -93,12 +84,11 @@ read-row-spec =
     refuse-requires-3
     code-requires-3
     returns-3
-    check-function-requires
-    enum-told
-    sub-function-row
-    part-function-row-start
-    part-function-row-end
-    function-row-requires
+    read-function-requires
+    enum-known-made
+    row-words-requires
+    slice-aggregate-put-row
+    put-row-requires
     enum-known-r
     code-requires-4
     same-length

@@ -1,5 +1,5 @@
 use denote.Ref.{now}
-use Rattle.hbc_debug.proofs.Within.{section-refused, section-found, base-fits}
+use Rattle.hbc_debug.proofs.Within.{section-refused, section-found, base-fits, part-fits}
 use borrow.Author.Needs.{needs}
 use Rattle.hbc_debug.proofs.read_debug.Statement.{statement}
 use Rattle.hbc_debug.proofs.read_debug.Tie as tie
@@ -23,7 +23,10 @@ part-bytes-requires-3 : tie.Need-part-bytes-requires-3
 part-bytes-requires-3 c κs = search needs
 
 read-parts-requires : tie.Need-read-parts-requires
-read-parts-requires c κs = base-fits (now (c .before .before .before .before .before .before .before .before .before .before .before .before .before .before .before .before .before .before .args .file)) (c .before .before .before .before .before .before .before .before .before .before .before .before .before .before .before .before .before .before .args .offset) (c .before .before .before .before .before .before .before .before .before .before .before .before .find-parts .ensures) (c .before .before .before .before .before .before .before .before .before .before .p .given .1) (c .before .before .before .before .before .before .part-bytes .ensures)
+read-parts-requires c κs =
+    let file = now (c .before .before .before .before .before .before .before .before .before .before .before .before .before .before .before .before .before .before .args .file) in
+    let at = c .before .before .before .before .before .before .before .before .before .before .before .before .before .before .before .before .before .before .args .offset in
+    (base-fits file at (c .before .before .before .before .before .before .before .before .before .before .before .before .find-parts .ensures) (c .before .before .before .before .before .before .before .before .before .before .p .given .1) (c .before .before .before .before .before .before .part-bytes .ensures .bytes), part-fits file at _ (c .before .before .before .before .before .before .before .before .before .before .before .before .find-parts .ensures) (c .before .before .before .before .before .before .before .before .before .before .p .given .1) (c .before .before .before .before .before .part-bytes2 .ensures .bytes), part-fits file at _ (c .before .before .before .before .before .before .before .before .before .before .before .before .find-parts .ensures) (c .before .before .before .before .before .before .before .before .before .before .p .given .1) (c .before .before .before .before .part-bytes3 .ensures .bytes))
 
 returns : tie.Need-returns
 returns c = section-refused (now (c .before .before .before .before .before .before .before .before .before .args .file)) (c .before .before .before .before .before .before .before .before .before .args .offset) _ (c .before .before .before .find-parts .ensures) (c .before .r .given .1)
@@ -44,7 +47,7 @@ returns-2 : tie.Need-returns-2
 returns-2 c =
     let a = c .before .before .before .before .before .before .before .before .before .before .before .before .before .before .before .before .before .before .before .before .before .before .before .before .before .before .before .args in
     section-found (now (a .file)) (a .offset) _ (c .before .before .before .before .before .before .before .before .before .before .before .before .before .before .before .before .before .before .before .before .before .find-parts .ensures) (c .before .before .before .before .before .before .before .before .before .before .before .before .before .before .before .before .before .before .before .p .given .1)
-    (c .before .before .before .before .before .before .before .before .before .before .before .before .before .before .before .part-bytes .ensures) (c .before .before .before .before .before .before .before .before .before .before .before .before .before .before .part-bytes2 .ensures) (c .before .before .before .before .before .before .before .before .before .before .before .before .before .part-bytes3 .ensures) (c .before .before .before .before .before .before .before .before .read-parts .ensures)
+    (c .before .before .before .before .before .before .before .before .before .before .before .before .before .before .before .part-bytes .ensures .bytes) (c .before .before .before .before .before .before .before .before .before .before .before .before .before .before .part-bytes2 .ensures .bytes) (c .before .before .before .before .before .before .before .before .before .before .before .before .before .part-bytes3 .ensures .bytes) (c .before .before .before .before .before .before .before .before .read-parts .ensures)
 
 pub read-debug-spec : {M : Type 1} → statement M
 read-debug-spec =

@@ -1,40 +1,40 @@
 use native.Mathlib.Omega.{arith}
 use denote.Ref.{now}
 use Rattle.hbc_debug.specs.Debug.{contents}
-use Rattle.hbc_debug.proofs.Whole.{strings-most, read-done, read-4}
+use Rattle.hbc_debug.proofs.Whole.{strings-most, all-fit, read-done, read-4}
 use borrow.Author.Needs.{needs}
 use Rattle.hbc_debug.proofs.read_parts.Statement.{statement}
 use Rattle.hbc_debug.proofs.read_parts.Tie as tie
 
-count-strings-requires : tie.Need-count-strings-requires
-count-strings-requires c κs = search needs
+string-count-requires : tie.Need-string-count-requires
+string-count-requires c κs = search needs
 
-count-scopes-requires : tie.Need-count-scopes-requires
-count-scopes-requires c κs = search needs
+scope-counts-requires : tie.Need-scope-counts-requires
+scope-counts-requires c κs = search needs
 
-cast-count-callees : tie.Need-cast-count-callees
-cast-count-callees c = omega (arith, strings-most (now (c .before .before .before .before .before .before .before .before .before .args .string-part)), c .before .count-strings .ensures, c .before .before .before .before .before .before .before .before .before .pre)
+cast-callee-count : tie.Need-cast-callee-count
+cast-callee-count c = omega (arith, strings-most (now (c .before .before .before .before .before .before .before .before .before .args .string-part)), c .before .string-count .ensures, c .before .before .before .before .before .before .before .before .before .pre .0)
 
-count-callees-requires : tie.Need-count-callees-requires
-count-callees-requires c κs = search needs
+callee-count-requires : tie.Need-callee-count-requires
+callee-count-requires c κs = search needs
 
 fits-requires : tie.Need-fits-requires
 fits-requires c κs = search needs
 
-write-strings-requires : tie.Need-write-strings-requires
-write-strings-requires c κs = search needs
+put-strings-requires : tie.Need-put-strings-requires
+put-strings-requires c κs = (c .before .before .before .before .before .before .before .before .before .before .before .before .before .pre .0, c .before .before .before .before .before .string-count .ensures, all-fit _ _ (c .before .before .fits2 .ensures) (c .before .if1 .taken) .strings)
 
-cast-write-scopes : tie.Need-cast-write-scopes
-cast-write-scopes c = omega (arith, strings-most (now (c .before .before .before .before .before .before .before .before .before .before .before .before .before .before .before .before .args .string-part)), c .before .before .before .before .before .before .before .before .count-strings .ensures, c .before .before .before .before .before .before .before .before .before .before .before .before .before .before .before .before .pre)
+cast-put-scopes : tie.Need-cast-put-scopes
+cast-put-scopes c = omega (arith, strings-most (now (c .before .before .before .before .before .before .before .before .before .before .before .before .before .before .before .before .args .string-part)), c .before .before .before .before .before .before .before .before .string-count .ensures, c .before .before .before .before .before .before .before .before .before .before .before .before .before .before .before .before .pre .0)
 
-write-scopes-requires : tie.Need-write-scopes-requires
-write-scopes-requires c κs = search needs
+put-scopes-requires : tie.Need-put-scopes-requires
+put-scopes-requires c κs = let fit = all-fit _ _ (c .before .before .before .before .before .before .before .fits2 .ensures) (c .before .before .before .before .before .before .if1 .taken) in ((c .before .before .before .before .before .before .before .before .before .before .before .before .before .before .before .before .before .before .pre .1, c .before .before .before .before .before .before .before .before .before .scope-counts .ensures), (fit .scopes, fit .names))
 
-cast-write-callees : tie.Need-cast-write-callees
-cast-write-callees c = omega (arith, strings-most (now (c .before .before .before .before .before .before .before .before .before .before .before .before .before .before .before .before .before .before .before .before .before .before .before .args .string-part)), c .before .before .before .before .before .before .before .before .before .before .before .before .before .before .before .count-strings .ensures, c .before .before .before .before .before .before .before .before .before .before .before .before .before .before .before .before .before .before .before .before .before .before .before .pre)
+cast-put-callees : tie.Need-cast-put-callees
+cast-put-callees c = omega (arith, strings-most (now (c .before .before .before .before .before .before .before .before .before .before .before .before .before .before .before .before .before .before .before .before .before .before .before .args .string-part)), c .before .before .before .before .before .before .before .before .before .before .before .before .before .before .before .string-count .ensures, c .before .before .before .before .before .before .before .before .before .before .before .before .before .before .before .before .before .before .before .before .before .before .before .pre .0)
 
-write-callees-requires : tie.Need-write-callees-requires
-write-callees-requires c κs = search needs
+put-callees-requires : tie.Need-put-callees-requires
+put-callees-requires c κs = (c .before .before .before .before .before .before .before .before .before .before .before .before .before .before .before .before .before .before .before .before .before .before .before .before .pre .2, c .before .before .before .before .before .before .before .before .before .before .before .before .before .before .callee-count .ensures, all-fit _ _ (c .before .before .before .before .before .before .before .before .before .before .before .before .before .fits2 .ensures) (c .before .before .before .before .before .before .before .before .before .before .before .before .if1 .taken) .callees)
 
 same-length : tie.Need-same-length
 same-length c = search needs
@@ -51,8 +51,8 @@ same-length-4 c = search needs
 returns : tie.Need-returns
 returns c =
     let a = c .before .before .before .before .before .before .before .before .before .before .before .before .before .before .before .before .before .before .before .before .before .before .before .before .before .before .before .args in
-    read-done (contents (now (a .string-part)) (a .base) (now (a .scope-part)) (now (a .callee-part))) _ (c .before .before .before .before .before .before .before .before .before .before .before .before .before .before .before .before .before .before .before .count-strings .ensures) (c .before .before .before .before .before .before .before .before .before .before .before .before .before .before .before .before .before .before .count-scopes .ensures) (c .before .before .before .before .before .before .before .before .before .before .before .before .before .before .before .before .before .count-callees .ensures) (c .before .before .before .before .before .before .before .before .before .before .before .before .before .before .before .before .fits2 .ensures)
-    (c .before .before .before .before .before .before .before .before .before .before .before .before .before .before .before .if1 .taken) (c .before .before .before .before .before .before .before .before .before .before .before .before .before .before .before .before .before .before .before .before .before .before .before .before .before .before .before .pre) (c .before .before .before .before .before .before .before .before .before .before .before .before .before .write-strings .ensures) (c .before .before .before .before .before .before .before .before .write-scopes .ensures) (c .before .before .write-callees .ensures)
+    read-done (contents (now (a .string-part)) (a .base) (now (a .scope-part)) (now (a .callee-part))) _ (c .before .before .before .before .before .before .before .before .before .before .before .before .before .before .before .before .before .before .before .string-count .ensures) (c .before .before .before .before .before .before .before .before .before .before .before .before .before .before .before .before .before .before .scope-counts .ensures) (c .before .before .before .before .before .before .before .before .before .before .before .before .before .before .before .before .before .callee-count .ensures) (c .before .before .before .before .before .before .before .before .before .before .before .before .before .before .before .before .fits2 .ensures)
+    (c .before .before .before .before .before .before .before .before .before .before .before .before .before .before .before .if1 .taken) (c .before .before .before .before .before .before .before .before .before .before .before .before .before .put-strings .ensures) (c .before .before .before .before .before .before .before .before .put-scopes .ensures) (c .before .before .put-callees .ensures)
 
 refuse-requires : tie.Need-refuse-requires
 refuse-requires c κs = search needs
@@ -60,23 +60,23 @@ refuse-requires c κs = search needs
 returns-2 : tie.Need-returns-2
 returns-2 c =
     let a = c .before .before .before .before .before .before .before .before .before .before .before .before .before .args in
-    read-4 (contents (now (a .string-part)) (a .base) (now (a .scope-part)) (now (a .callee-part))) _ (c .before .before .before .before .before .count-strings .ensures) (c .before .before .before .before .count-scopes .ensures) (c .before .before .before .count-callees .ensures) (c .before .before .fits2 .ensures)
+    read-4 (contents (now (a .string-part)) (a .base) (now (a .scope-part)) (now (a .callee-part))) _ (c .before .before .before .before .before .string-count .ensures) (c .before .before .before .before .scope-counts .ensures) (c .before .before .before .callee-count .ensures) (c .before .before .fits2 .ensures)
     (c .before .if1 .left) (c .refuse .ensures)
 
 pub read-parts-spec : {M : Type 1} → statement M
 read-parts-spec =
     tie.close
     (tie.spec
-    count-strings-requires
-    count-scopes-requires
-    cast-count-callees
-    count-callees-requires
+    string-count-requires
+    scope-counts-requires
+    cast-callee-count
+    callee-count-requires
     fits-requires
-    write-strings-requires
-    cast-write-scopes
-    write-scopes-requires
-    cast-write-callees
-    write-callees-requires
+    put-strings-requires
+    cast-put-scopes
+    put-scopes-requires
+    cast-put-callees
+    put-callees-requires
     same-length
     same-length-2
     same-length-3

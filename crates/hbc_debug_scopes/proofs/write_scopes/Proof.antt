@@ -1,138 +1,80 @@
-use Rattle.hbc_io.proofs.Reading.{found}
-use native.Mathlib.Omega.{arith}
-use mathlib.Core.Path.{_≡_, ap, _∙_}
-use Prim.Native.Nat.{_+_, _*_, _≤_}
-use lib.ListN.{length}
-use lib.Seq.{sets}
-use Rattle.hbc_rows.proofs.Passes.{Written, written-first, written-stop, written-done, Rowed, rowed-first, rowed-on, rowed-stop, rowed-done}
-use Rattle.hbc_debug_scopes.specs.Scopes.{scopeAt, scopesOf, nameCount, scopeWidth, scopeRow, nameRow}
-use Rattle.hbc_debug_scopes.specs.Private.{saysHead}
-use Rattle.hbc_debug_scopes.proofs.Fronts.{head-most, turn, turned, scope-refused, row-size}
+use mathlib.Core.Path.{refl, ap}
+use Rattle.hbc_io.specs.Answer.{refuses}
+use Rattle.hbc_io.proofs.Exits.{stop, past, given}
+use Rattle.hbc_debug_scopes.proofs.Calls.{fronts-put}
 use borrow.Author.Needs.{needs}
 use Rattle.hbc_debug_scopes.proofs.write_scopes.Statement.{statement}
 use Rattle.hbc_debug_scopes.proofs.write_scopes.Tie as tie
 
--- the rows and the names still to be written make the two tables as they are to be; a name takes a byte, so there are no more than bytes
-abbrev Inv-loop : tie.InvT-loop
-Inv-loop s strings rows₀ names₀ here₀ left₀ at₀ first₀ rows names here left at first =
-    Rowed (scopeAt s) scopeRow nameCount (scopesOf s) rows₀ left at first here rows × Written (scopeAt s) (nameRow strings) (scopesOf s) names₀ 0 left first here names
-    × (at + scopeWidth * left ≡ scopeWidth * length s) × (first ≤ here .at) × (here .at ≤ length s)
+refuse-requires : tie.Need-refuse-requires
+refuse-requires c κs = search needs
 
-abbrev μ-loop : tie.MeasureT-loop
-μ-loop s strings rows₀ names₀ here₀ left₀ at₀ first₀ rows names here left at first = left
+returns : tie.Need-returns
+returns c = stop _ _ _ _ (c .before .if1 .taken) refl (ap refuses (c .refuse .ensures))
 
-loop-holds : tie.Need-loop-holds Inv-loop μ-loop
-unfolding scopesOf
-loop-holds c = (rowed-first _ _, written-first _ _, omega arith, omega arith, omega arith)
+refuse-requires-2 : tie.Need-refuse-requires-2
+refuse-requires-2 c κs = search needs
 
-read-head-requires : tie.Need-read-head-requires Inv-loop μ-loop
-read-head-requires c κs = search needs
+returns-2 : tie.Need-returns-2
+returns-2 c = past _ _ _ _ (c .before .before .before .if1 .left) (stop _ _ _ _ (c .before .if2 .taken) refl (ap refuses (c .refuse2 .ensures)))
 
-enum-known-r : tie.Need-enum-known-r Inv-loop μ-loop
-enum-known-r c = search needs
+refuse-requires-3 : tie.Need-refuse-requires-3
+refuse-requires-3 c κs = search needs
 
-same-length : tie.Need-same-length Inv-loop μ-loop
-same-length c = c .before .before .before .before .before .loop .inv .0 .size
+returns-3 : tie.Need-returns-3
+returns-3 c = past _ _ _ _ (c .before .before .before .before .before .if1 .left) (past _ _ _ _ (c .before .before .before .if2 .left) (stop _ _ _ _ (c .before .if3 .taken) refl (ap refuses (c .refuse3 .ensures))))
 
-same-length-2 : tie.Need-same-length-2 Inv-loop μ-loop
-same-length-2 c = c .before .before .before .before .before .loop .inv .1 .size
+mul-words : tie.Need-mul-words
+mul-words c = search needs
 
-returns : tie.Need-returns Inv-loop μ-loop
-returns c =
-    let e = scope-refused _ _ _ _ (found saysHead (c .before .before .before .read-head .ensures) (c .before .r .given .1)) in
-    record { rows-are = rowed-stop e (c .before .before .before .before .before .loop .inv .0); names-are = written-stop e (c .before .before .before .before .before .loop .inv .1) }
+sub-write-rows : tie.Need-sub-write-rows
+sub-write-rows c = search needs
 
-enum-known-h : tie.Need-enum-known-h Inv-loop μ-loop
-enum-known-h c = search needs
+part-write-rows-start : tie.Need-part-write-rows-start
+part-write-rows-start c = search needs
 
-write-names-requires : tie.Need-write-names-requires Inv-loop μ-loop
-write-names-requires c κs =
-    let e = found saysHead (c .before .before .before .before .read-head .ensures) (c .before .before .h .given .1) in
-    omega (arith, head-most _ _ _ _ e, c .before .before .before .before .before .before .loop .inv .3, c .before .before .before .before .before .before .loop .inv .4, c .before .before .before .before .before .before .before .before .before .before .good .0)
+part-write-rows-end : tie.Need-part-write-rows-end
+part-write-rows-end c = search needs
 
-cast-t19 : tie.Need-cast-t19 Inv-loop μ-loop
-cast-t19 c =
-    let t = turn _ _ _ _ _ _ (found saysHead (c .before .before .before .before .before .before .before .before .read-head .ensures) (c .before .before .before .before .before .before .h .given .1)) (c .before .before .before .write-names .ensures .0) in
-    omega (arith, t .short, c .before .before .before .before .before .before .before .before .before .before .loop .inv .4)
+sub-write-rows-2 : tie.Need-sub-write-rows-2
+sub-write-rows-2 c = search needs
 
-cast-t20 : tie.Need-cast-t20 Inv-loop μ-loop
-cast-t20 c =
-    let t = turn _ _ _ _ _ _ (found saysHead (c .before .before .before .before .before .before .before .before .read-head .ensures) (c .before .before .before .before .before .before .h .given .1)) (c .before .before .before .write-names .ensures .0) in
-    omega (arith, t .short, c .before .before .before .before .before .before .before .before .before .before .loop .inv .3, c .before .before .before .before .before .before .before .before .before .before .loop .inv .4)
+part-write-rows-start-2 : tie.Need-part-write-rows-start-2
+part-write-rows-start-2 c = search needs
 
-cast-t21 : tie.Need-cast-t21 Inv-loop μ-loop
-cast-t21 c =
-    let t = turn _ _ _ _ _ _ (found saysHead (c .before .before .before .before .before .before .before .before .before .read-head .ensures) (c .before .before .before .before .before .before .before .h .given .1)) (c .before .before .before .before .write-names .ensures .0) in
-    omega (arith, t .short, t .low, t .high)
+part-write-rows-end-2 : tie.Need-part-write-rows-end-2
+part-write-rows-end-2 c = search needs
 
-slice-aggregate-put-words : tie.Need-slice-aggregate-put-words Inv-loop μ-loop
-slice-aggregate-put-words c = search needs
+write-rows-requires : tie.Need-write-rows-requires
+write-rows-requires c κs = search needs
 
-put-words-requires : tie.Need-put-words-requires Inv-loop μ-loop
-put-words-requires c κs = search needs
+same-length : tie.Need-same-length
+same-length c = search needs
 
-add-at : tie.Need-add-at Inv-loop μ-loop
-add-at c =
-    let t = turn _ _ _ _ _ _ (found saysHead (c .before .before .before .before .before .before .before .before .before .before .before .before .before .before .before .read-head .ensures) (c .before .before .before .before .before .before .before .before .before .before .before .before .before .h .given .1)) (c .before .before .before .before .before .before .before .before .before .before .write-names .ensures .0) in
-    omega (arith, c .before .before .before .before .before .before .before .before .before .before .before .before .before .before .before .before .before .loop .inv .2, t .short, c .before .before .before .before .before .before .before .before .before .before .before .before .before .before .before .before .loop-test .taken)
+same-length-2 : tie.Need-same-length-2
+same-length-2 c = search needs
 
-add-first : tie.Need-add-first Inv-loop μ-loop
-add-first c =
-    let t = turn _ _ _ _ _ _ (found saysHead (c .before .before .before .before .before .before .before .before .before .before .before .before .before .before .before .before .read-head .ensures) (c .before .before .before .before .before .before .before .before .before .before .before .before .before .before .h .given .1)) (c .before .before .before .before .before .before .before .before .before .before .before .write-names .ensures .0) in
-    omega (arith, t .short, t .low, t .high, c .before .before .before .before .before .before .before .before .before .before .before .before .before .before .before .before .before .before .loop .inv .3)
-
-sub-left : tie.Need-sub-left Inv-loop μ-loop
-sub-left c = search needs
-
-loop-less : tie.Need-loop-less Inv-loop μ-loop
-loop-less c = search needs
-
-loop-again : tie.Need-loop-again Inv-loop μ-loop
-loop-again c =
-    let l = c .before .before .before .before .before .before .before .before .before .before .before .before .before .before .before .before .before .before .loop in
-    let more = c .before .before .before .before .before .before .before .before .before .before .before .before .before .before .before .before .before .loop-test .taken in
-    let t = turn _ _ _ _ _ _ (found saysHead (c .before .before .before .before .before .before .before .before .before .before .before .before .before .before .before .before .read-head .ensures) (c .before .before .before .before .before .before .before .before .before .before .before .before .before .before .h .given .1)) (c .before .before .before .before .before .before .before .before .before .before .before .write-names .ensures .0) in
-    let put = c .before .before .before .before .put-words .ensures ∙ ap (sets (l .rows) (l .at)) (t .row (l .first)) in (
-      rowed-on scopeWidth _ more (t .is) (row-size _ _) (t .count) put (l .inv .0),
-      turned _ _ t more (c .before .before .before .before .before .before .before .before .before .before .before .write-names .ensures .1) (l .inv .1),
-      omega (arith, l .inv .2, more),
-      omega (arith, t .low, l .inv .3),
-      omega (arith, t .high),
-    )
-
-same-length-3 : tie.Need-same-length-3 Inv-loop μ-loop
-same-length-3 c = c .before .loop .inv .0 .size
-
-same-length-4 : tie.Need-same-length-4 Inv-loop μ-loop
-same-length-4 c = c .before .loop .inv .1 .size
-
-returns-2 : tie.Need-returns-2 Inv-loop μ-loop
-returns-2 c = record { rows-are = rowed-done (c .loop-test .left) (c .before .loop .inv .0); names-are = written-done (c .loop-test .left) (c .before .loop .inv .1) }
+returns-4 : tie.Need-returns-4
+returns-4 c = past _ _ _ _ (c .before .before .before .before .before .before .before .before .before .before .before .before .if1 .left) (past _ _ _ _ (c .before .before .before .before .before .before .before .before .before .before .if2 .left) (past _ _ _ _ (c .before .before .before .before .before .before .before .before .if3 .left) (given refl refl (fronts-put _ _ _ _ _ _ (c .before .before .before .before .write-rows .ensures)))))
 
 pub write-scopes-spec : {M : Type 1} → statement M
 write-scopes-spec =
     tie.close
     (tie.spec
-    Inv-loop
-    μ-loop
-    loop-holds
-    read-head-requires
-    enum-known-r
+    refuse-requires
+    returns
+    refuse-requires-2
+    returns-2
+    refuse-requires-3
+    returns-3
+    mul-words
+    sub-write-rows
+    part-write-rows-start
+    part-write-rows-end
+    sub-write-rows-2
+    part-write-rows-start-2
+    part-write-rows-end-2
+    write-rows-requires
     same-length
     same-length-2
-    returns
-    enum-known-h
-    write-names-requires
-    cast-t19
-    cast-t20
-    cast-t21
-    slice-aggregate-put-words
-    put-words-requires
-    add-at
-    add-first
-    sub-left
-    loop-less
-    loop-again
-    same-length-3
-    same-length-4
-    returns-2)
+    returns-4)

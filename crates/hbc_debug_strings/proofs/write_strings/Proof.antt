@@ -1,24 +1,44 @@
+use mathlib.Core.Path.{refl, ap}
 use native.Mathlib.Omega.{arith}
-use Prim.Native.Nat.{_+_}
-use borrow.Author.Tests.{lt-ltb, le-ltb}
-use lib.ListN.{length}
-use denote.Ref.{now}
-use Rattle.hbc_io.specs.Outcome.{limit}
-use Rattle.hbc_debug_strings.specs.Strings.{stringTable}
+use Rattle.hbc_io.specs.Answer.{refuses}
+use Rattle.hbc_io.proofs.Exits.{stop, past, given}
+use Rattle.hbc_debug_parts.proofs.Fronts.{front-put}
 use borrow.Author.Needs.{needs}
 use Rattle.hbc_debug_strings.proofs.write_strings.Statement.{statement}
 use Rattle.hbc_debug_strings.proofs.write_strings.Tie as tie
 
+refuse-requires : tie.Need-refuse-requires
+refuse-requires c κs = search needs
+
 returns : tie.Need-returns
-unfolding stringTable
-returns c = let s = now (c .before .before .before .args .part) in simp (lt-ltb limit (c .before .before .before .args .base .0 + length s) (omega arith))
+returns c = stop _ _ _ _ (omega arith) refl (ap refuses (c .refuse .ensures))
 
 sub-if2 : tie.Need-sub-if2
 sub-if2 c = search needs
 
+refuse-requires-2 : tie.Need-refuse-requires-2
+refuse-requires-2 c κs = search needs
+
 returns-2 : tie.Need-returns-2
-unfolding stringTable
-returns-2 c = let s = now (c .before .before .before .before .before .args .part) in simp (lt-ltb limit (c .before .before .before .before .before .args .base .0 + length s) (omega arith))
+returns-2 c = stop _ _ _ _ (omega arith) refl (ap refuses (c .refuse2 .ensures))
+
+refuse-requires-3 : tie.Need-refuse-requires-3
+refuse-requires-3 c κs = search needs
+
+returns-3 : tie.Need-returns-3
+returns-3 c = past _ _ _ _ (omega arith) (stop _ _ _ _ (c .before .if3 .taken) refl (ap refuses (c .refuse3 .ensures)))
+
+mul-write-rows : tie.Need-mul-write-rows
+mul-write-rows c = search needs
+
+sub-write-rows : tie.Need-sub-write-rows
+sub-write-rows c = search needs
+
+part-write-rows-start : tie.Need-part-write-rows-start
+part-write-rows-start c = search needs
+
+part-write-rows-end : tie.Need-part-write-rows-end
+part-write-rows-end c = search needs
 
 write-rows-requires : tie.Need-write-rows-requires
 write-rows-requires c κs = search needs
@@ -26,10 +46,24 @@ write-rows-requires c κs = search needs
 same-length : tie.Need-same-length
 same-length c = search needs
 
-returns-3 : tie.Need-returns-3
-unfolding stringTable
-returns-3 c = let s = now (c .before .before .before .before .before .before .before .before .before .args .part) in rw (le-ltb limit (c .before .before .before .before .before .before .before .before .before .args .base .0 + length s) (omega arith)) (c .before .before .write-rows .ensures)
+returns-4 : tie.Need-returns-4
+returns-4 c = past _ _ _ _ (omega arith) (past _ _ _ _ (c .before .before .before .before .if3 .left) (given refl refl (front-put _ _ _ (c .before .before .write-rows .ensures))))
 
 pub write-strings-spec : {M : Type 1} → statement M
 write-strings-spec =
-    tie.close (tie.spec returns sub-if2 returns-2 write-rows-requires same-length returns-3)
+    tie.close
+    (tie.spec
+    refuse-requires
+    returns
+    sub-if2
+    refuse-requires-2
+    returns-2
+    refuse-requires-3
+    returns-3
+    mul-write-rows
+    sub-write-rows
+    part-write-rows-start
+    part-write-rows-end
+    write-rows-requires
+    same-length
+    returns-4)

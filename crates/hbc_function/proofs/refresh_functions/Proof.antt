@@ -70,7 +70,7 @@ enum-known-n : tie.Need-enum-known-n
 enum-known-n c = search needs
 
 patch-met-requires : tie.Need-patch-met-requires
-patch-met-requires c κs = ((omega arith, omega arith), (c .before .before .before .before .before .next-met .ensures, (sym (fresh-by (c .before .before .before .before .check-met .ensures) (c .before .before .n .given .1)), omega arith)))
+patch-met-requires c κs = ((omega arith, omega arith, omega arith, omega arith), (c .before .before .before .before .before .next-met .ensures, (sym (fresh-by (c .before .before .before .before .check-met .ensures) (c .before .before .n .given .1)), omega arith)))
 
 enum-known-r : tie.Need-enum-known-r
 enum-known-r c = search needs

@@ -1,52 +1,46 @@
-use borrow.Author.Needs.{needs}
-use Prim.Native.Nat.{_≤_, _-_}
-use native.Mathlib.Omega.{arith}
+use denote.Ref.{now}
+use mathlib.Core.Path.{_∙_, ap, sym}
 use lib.Dec.{leb}
-use borrow.Author.Tests.{le-leb}
+use Rattle.hbc_function_record.specs.declared.Layout.{Layout}
 use Rattle.hbc_function_header.specs.Header.{functionAt}
-use Rattle.hbc_function.proofs.Laws.{Put, put-long, put-more, put-done}
-use Rattle.hbc_function.proofs.Passes.{put-from}
+use Rattle.hbc_function.specs.Table.{putRows}
+use borrow.Author.Needs.{needs}
 use Rattle.hbc_function.proofs.write_rows.Statement.{statement}
 use Rattle.hbc_function.proofs.write_rows.Tie as tie
 
--- the table is the one lent, with the rows of functions `from` to id - 1
-abbrev Inv-loop : tie.InvT-loop
-Inv-loop s layout start from to table₀ id₀ table id = (id ≤ to) × ((from ≤ id) × Put (leb from) (functionAt s layout start) id table₀ table)
+enum-told : tie.Need-enum-told
+enum-told c = search needs
 
-abbrev μ-loop : tie.MeasureT-loop
-μ-loop s layout start from to table₀ id₀ table id = to - id
+write-legacy-requires : tie.Need-write-legacy-requires
+write-legacy-requires c κs = search needs
 
-loop-holds : tie.Need-loop-holds Inv-loop μ-loop
-loop-holds c = (omega arith, (omega arith, put-from _ _ _))
+enum-told-2 : tie.Need-enum-told-2
+enum-told-2 c = search needs
 
-write-row-requires : tie.Need-write-row-requires Inv-loop μ-loop
-write-row-requires c κs = let l = put-long (c .before .before .loop .inv .1 .1) in omega arith
+write-modern-requires : tie.Need-write-modern-requires
+write-modern-requires c κs = search needs
 
-add-id : tie.Need-add-id Inv-loop μ-loop
-add-id c = search needs
+same-length : tie.Need-same-length
+same-length c = search needs
 
-loop-less : tie.Need-loop-less Inv-loop μ-loop
-loop-less c = search needs
+returns : tie.Need-returns
+returns c = c .before .before .write-legacy .ensures ∙ ap (λ (l : Layout). putRows (leb (c .before .before .before .before .before .before .before .before .args .from)) (functionAt (now (c .before .before .before .before .before .before .before .before .args .s)) l (c .before .before .before .before .before .before .before .before .args .start)) (now (c .before .before .before .before .before .before .before .before .args .table)) (c .before .before .before .before .before .before .before .before .args .to)) (sym (c .before .before .before .before .enum-told .given .1))
 
-loop-again : tie.Need-loop-again Inv-loop μ-loop
-loop-again c = (omega arith, (omega arith, put-more (c .before .before .before .before .before .loop .inv .1 .1) (le-leb _ _ (c .before .before .before .before .before .loop .inv .1 .0)) (c .before .before .write-row .ensures)))
+same-length-2 : tie.Need-same-length-2
+same-length-2 c = search needs
 
-same-length : tie.Need-same-length Inv-loop μ-loop
-same-length c = put-long (c .before .loop .inv .1 .1)
-
-returns : tie.Need-returns Inv-loop μ-loop
-returns c = put-done (c .before .loop .inv .1 .1) (omega arith)
+returns-2 : tie.Need-returns-2
+returns-2 c = c .before .before .write-modern .ensures ∙ ap (λ (l : Layout). putRows (leb (c .before .before .before .before .before .before .before .before .args .from)) (functionAt (now (c .before .before .before .before .before .before .before .before .args .s)) l (c .before .before .before .before .before .before .before .before .args .start)) (now (c .before .before .before .before .before .before .before .before .args .table)) (c .before .before .before .before .before .before .before .before .args .to)) (sym (c .before .before .before .before .enum-told2 .given .1))
 
 pub write-rows-spec : {M : Type 1} → statement M
 write-rows-spec =
     tie.close
     (tie.spec
-    Inv-loop
-    μ-loop
-    loop-holds
-    write-row-requires
-    add-id
-    loop-less
-    loop-again
+    enum-told
+    write-legacy-requires
+    enum-told-2
+    write-modern-requires
     same-length
-    returns)
+    returns
+    same-length-2
+    returns-2)

@@ -4,6 +4,7 @@ use native.Mathlib.Nat.{mod-lt}
 use Prim.Native.Nat.{_+_, _-_, _%_, _≤_, _<_}
 use lib.ListN.{length}
 use denote.Ref.{now}
+use Rattle.hbc_io.specs.Outcome.{limit}
 use Rattle.hbc_io.specs.Plain.{alignTo}
 use borrow.Author.Needs.{needs}
 use Rattle.hbc_io.proofs.align.Statement.{statement}
@@ -21,7 +22,7 @@ refuse-requires-2 c κs = search needs
 
 returns-2 : tie.Need-returns-2
 unfolding alignTo
-returns-2 c = simp (c .refuse2 .ensures, le-ltb _ _ (c .before .before .if1 .left), eq-eqb _ _ (c .before .if2 .taken))
+returns-2 c = simp (c .refuse2 .ensures, le-ltb limit (length (now (c .before .before .before .before .args .s))) (omega arith), eq-eqb _ _ (c .before .if2 .taken))
 
 refuse-requires-3 : tie.Need-refuse-requires-3
 refuse-requires-3 c κs = search needs

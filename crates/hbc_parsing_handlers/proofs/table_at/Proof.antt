@@ -1,7 +1,8 @@
 use mathlib.Core.Path.{refl}
 use borrow.Author.Tests.{eq-eqb, ne-eqb}
 use Rattle.hbc_parsing_handlers.specs.Why.{counted, tableAt}
-use Rattle.hbc_parsing_handlers.proofs.Laws.{is-below, not-below, is-chosen, not-chosen, table-is}
+use Rattle.hbc_io.proofs.Exits.{is-below, not-below, is-chosen, not-chosen}
+use Rattle.hbc_parsing_handlers.proofs.Laws.{table-is}
 use native.Mathlib.Omega.{arith}
 use borrow.Author.Needs.{needs}
 use Rattle.hbc_parsing_handlers.proofs.table_at.Statement.{statement}

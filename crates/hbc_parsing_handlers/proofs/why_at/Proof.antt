@@ -2,7 +2,8 @@ use mathlib.Core.Path.{refl, ap, _∙_}
 use borrow.Author.Tests.{eq-eqb, ne-eqb, le-leb, lt-leb}
 use Rattle.hbc_rows.proofs.Laws.{test-eq, test-ne}
 use Rattle.hbc_parsing_handlers.specs.Why.{tableAt, whyAt}
-use Rattle.hbc_parsing_handlers.proofs.Laws.{is-below, is-chosen, not-chosen, rounds-past}
+use Rattle.hbc_io.proofs.Exits.{is-below, is-chosen, not-chosen}
+use Rattle.hbc_parsing_handlers.proofs.Laws.{rounds-past}
 use Rattle.hbc_io.specs.Answers.{saysMoved}
 use Rattle.hbc_io.proofs.Reading.{found}
 use Rattle.hbc_io.proofs.Aligns.{aligned}

@@ -1,11 +1,11 @@
-//! A sample of what is right of debug sections, as the program debug_vectors reads it.
+//! A sample of what is right of debug sections.
 
 use harness::Random;
 
 use super::case::{check, expected, rows, Case, ROWS};
 use super::groups::{good, Section};
 use crate::inputs::{any_bytes, sleb};
-use crate::record::{Fields, Sample, FILL};
+use crate::record::{Record, Sample, FILL, READ_DEBUG};
 
 const NAMES: [&str; 7] = [
     "read_debug, offsets and headers",
@@ -33,28 +33,18 @@ fn lent(sample: &mut Sample, group: usize, file: &[u8], offset: u32, words: [usi
     assert!((0..4).all(|i| words[i] <= MOST_LENT[i]));
     let tables = words.map(|words| vec![FILL; words]);
     let [a, b, c, d] = &tables;
-    let case = Case {
-        file,
-        offset,
-        tables: [a, b, c, d],
-    };
+    let case = Case { file, offset, tables: [a, b, c, d] };
     let rows = rows(file, offset);
     check(&case, &rows).expect("what debug.rs says");
     let right = expected(&case, &rows);
     let number = bisquepond::sys::number(right.code);
-    let [strings, scopes, names, callees] = right.counts;
-    let told = match number {
-        0 => Ok([strings + (scopes << 32), names + (callees << 32)]),
-        _ => Err((number, bisquepond::sys::place(right.code))),
-    };
-    let fields = Fields::default()
-        .numbers(&[offset as usize])
-        .numbers(&words)
-        .bytes(file)
-        .told(told);
-    let all = right.tables.iter();
-    let fields = all.fold(fields, |fields, table| fields.table(table));
-    sample.add(group, number, fields);
+    // The counts of a refused call are 0, as they were before it.
+    let counts = if number == 0 { right.counts } else { [0; 4] };
+    let lent = words.map(|words| words as u64);
+    let answer = [&[right.code], &counts.map(|count| count as u64)[..]].concat();
+    let record = Record::new(READ_DEBUG, &lent, &[offset], file).answer(&answer);
+    let record = right.tables.iter().fold(record, |record, table| record.table(table));
+    sample.add(group, number, record);
 }
 
 /// With just the words that the rows need, and up to two more.
@@ -85,14 +75,14 @@ fn on_parts(sample: &mut Sample, group: usize, scopes: &[u8], callees: &[u8], st
 }
 
 pub fn write(mut random: Random) -> (Vec<u8>, Vec<String>) {
-    let mut sample = Sample::new(&NAMES);
+    let mut sample = Sample::new("debug", &NAMES);
     headers(&mut sample, &mut random);
     strings(&mut sample);
     scopes(&mut sample);
     callees(&mut sample, &mut random);
     damaged(&mut sample, &mut random);
     tables(&mut sample, &mut random);
-    while sample.more(48_000) {
+    while sample.fewer(590) {
         any(&mut sample, &mut random);
     }
     sample.done(answers)
@@ -106,24 +96,12 @@ fn headers(sample: &mut Sample, random: &mut Random) {
             add(sample, 0, &file, offset);
         }
     }
-    let section = Section {
-        filenames: 1,
-        storage: 1,
-        regions: 1,
-        ..good(random)
-    };
+    let section = Section { filenames: 1, storage: 1, regions: 1, ..good(random) };
     let (file, offset) = section.bytes();
     for word in 0..7 {
         let at = offset as usize + 4 * word;
         let own = u32::from_le_bytes(file[at..at + 4].try_into().unwrap());
-        let numbers = [
-            own.wrapping_sub(1),
-            own + 1,
-            0,
-            1 << 31,
-            0x2000_0000,
-            u32::MAX,
-        ];
+        let numbers = [own.wrapping_sub(1), own + 1, 0, 1 << 31, 0x2000_0000, u32::MAX];
         for number in numbers {
             let mut changed = file.clone();
             changed[at..at + 4].copy_from_slice(&number.to_le_bytes());
@@ -134,10 +112,7 @@ fn headers(sample: &mut Sample, random: &mut Random) {
 
 /// Empty strings, bytes that are no text, prefixes of two to eleven bytes, and strings that are cut.
 fn strings(sample: &mut Sample) {
-    let long: Vec<u8> = (1..=11)
-        .chain([0])
-        .map(|n| if n == 0 { 0 } else { 0x80 })
-        .collect();
+    let long: Vec<u8> = (1..=11).chain([0]).map(|n| if n == 0 { 0 } else { 0x80 }).collect();
     let all: [&[u8]; 12] = [
         b"",
         b"\0",
@@ -165,9 +140,8 @@ fn strings(sample: &mut Sample) {
 fn scopes(sample: &mut Sample) {
     let two = b"\x01a\0";
     let edges = [31, 32, 33, 63].map(|bits| (1u64 << bits) as i64);
-    let edges = edges
-        .into_iter()
-        .flat_map(|edge| [edge.wrapping_sub(1), edge, edge.wrapping_neg()]);
+    let edges =
+        edges.into_iter().flat_map(|edge| [edge.wrapping_sub(1), edge, edge.wrapping_neg()]);
     for value in (-2..=3).chain(edges).chain([0xFFFF_FFFE]) {
         for len in [1, 10] {
             let number = sleb(value, len);
@@ -243,10 +217,7 @@ fn tables(sample: &mut Sample, random: &mut Random) {
         section = good(random);
     }
     let (file, offset) = section.bytes();
-    let needed = rows(&file, offset)
-        .expect("a good section")
-        .tables
-        .map(|table| table.len());
+    let needed = rows(&file, offset).expect("a good section").tables.map(|table| table.len());
     for i in 0..4 {
         let from = needed[i].saturating_sub(ROWS[i] + 1);
         for words in [0].into_iter().chain(from..=needed[i] + ROWS[i]) {
@@ -255,11 +226,9 @@ fn tables(sample: &mut Sample, random: &mut Random) {
             lent(sample, 5, &file, offset, all);
         }
     }
-    for (file, offset) in [
-        (&file[..], 0),
-        (&file[..offset as usize + 27], offset),
-        (&file[..], u32::MAX),
-    ] {
+    for (file, offset) in
+        [(&file[..], 0), (&file[..offset as usize + 27], offset), (&file[..], u32::MAX)]
+    {
         lent(sample, 5, file, offset, [0; 4]);
     }
 }

@@ -10,7 +10,7 @@ use published::io::ByteReader;
 
 use crate::case::{self, bytes_word, printed, replayed, table_word};
 use crate::case::{Compare, Difference, Refusal, Words};
-use crate::lent::{copied, Answer};
+use crate::lent::{copied, Answer, Word};
 use crate::meter;
 use crate::search::last;
 
@@ -26,12 +26,29 @@ pub enum Op {
     Read,
     Refresh,
     One,
+    Ground,
     Meets,
 }
 
 use Op::*;
 
-pub const OPS: [Op; 4] = [Read, Refresh, One, Meets];
+pub const OPS: [Op; 5] = [Read, Refresh, One, Ground, Meets];
+
+/// What stands for the place of a large header that there is not.
+pub const NO_PLACE: usize = usize::MAX;
+
+/// Two numbers lent for a ground, as they are before the call: as words, the lesser half first.
+fn unsaid() -> Vec<u32> {
+    (0..4).map(Word::before).collect()
+}
+
+fn halves(number: usize) -> [u32; 2] {
+    [number as u32, (number >> 32) as u32]
+}
+
+pub fn joined(halves: &[u32]) -> usize {
+    halves[0] as usize | (halves[1] as usize) << 32
+}
 
 #[derive(Clone, Copy, PartialEq, Eq, Debug)]
 pub enum Layout {
@@ -202,18 +219,24 @@ pub fn one(file: &[u8], layout: Layout, start: usize, id: u32) -> Result<Row, Re
 pub fn right(case: &Case, table: &mut [u32]) -> Result<u32, Refusal> {
     let Case { op, file, start, count, low, high, .. } = *case;
     let layout = *LAYOUTS.get(case.layout as usize).ok_or((12, 0))?;
-    let meets = |&id: &u32| file.len() <= LIMIT && layout.meets(file, start, id, low, high);
-    if op == Meets {
-        return Ok(meets(&count).into());
-    }
+    let meets = |&id: &u32| layout.meets(file, start, id, low, high);
     if file.len() > LIMIT {
         return Err((1, 0));
     }
     if start > file.len() {
         return Err((2, 0));
     }
-    if op == Refresh && (low > high || high > file.len()) {
+    if (op == Refresh || op == Meets) && (low > high || high > file.len()) {
         return Err((10, 0));
+    }
+    if op == Ground || op == Meets {
+        let (at, header) = layout.header(file, start, count).ok_or((3, count))?;
+        if op == Meets {
+            return Ok(meets(&count).into());
+        }
+        let large = layout.place(header).map_or(NO_PLACE, |place| place as usize);
+        table.copy_from_slice([halves(at), halves(large)].as_flattened());
+        return Ok(0);
     }
     let rows = if op == One { 1 } else { count as usize };
     if table.len() / ROW < rows {
@@ -259,9 +282,22 @@ impl Case<'_> {
                     hbc_refresh_functions(s, len, layout, start, count, low, high, table, words)
                 }
                 One => hbc_read_function(s, len, layout, start, count, table, words),
+                Ground => unreachable!("it is lent two numbers and no table"),
                 Meets => hbc_function_meets(s, len, layout, start, count, low, high),
             }
         })
+    }
+
+    /// A ground, with its two numbers as words.
+    fn ground(&self) -> Answer {
+        let (s, len, mut table) = (self.file.as_ptr(), self.file.len(), unsaid());
+        let (layout, start, id) = (self.layout, self.start, self.count);
+        let (mut header, mut large) = (joined(&table[..2]), joined(&table[2..]));
+        let code = meter::call(|| unsafe {
+            hbc_function_ground(s, len, layout, start, id, &mut header, &mut large)
+        });
+        table.copy_from_slice([halves(header), halves(large)].as_flattened());
+        Answer { code, table: copied(&table) }
     }
 
     /// Compares a refresh with a fresh read of the same file by the Rust as well. `self.table` begins with the rows of
@@ -288,14 +324,18 @@ impl Compare for Case<'_> {
     type Besides = ();
 
     fn ours(&self) -> Result<Answer, String> {
+        if self.op == Ground {
+            return Ok(self.ground());
+        }
         let mut table = copied(self.table);
         let code = self.make(table.as_mut_ptr(), self.table.len());
         Ok(Answer { code, table })
     }
 
     fn right(&self, _: Option<&Answer>) -> (Answer, ()) {
-        let mut table = copied(self.table);
-        let code = case::code(right(self, &mut table[..self.table.len()]));
+        let before = if self.op == Ground { unsaid() } else { self.table.to_vec() };
+        let mut table = copied(&before);
+        let code = case::code(right(self, &mut table[..before.len()]));
         (Answer { code, table }, ())
     }
 
@@ -306,7 +346,11 @@ impl Compare for Case<'_> {
     }
 
     fn said(&self, answer: &Answer, right: Option<&Answer>) -> String {
-        let what = if self.op == Meets { "" } else { "rows" };
+        let what = match self.op {
+            Meets => "",
+            Ground => "places",
+            _ => "rows",
+        };
         answer.words(what, right, ROW)
     }
 

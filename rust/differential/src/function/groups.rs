@@ -305,6 +305,7 @@ fn places(run: &mut Run) -> Compared {
                 let lent = words(&mut random, 3 * ROW);
                 run.compare(&table.case(Read, &lent))?;
                 run.compare(&table.case(One, &lent).of(One, 1))?;
+                run.compare(&table.case(Ground, &lent).of(Ground, 1))?;
                 // Spans that end before it, at its first byte, at its last and behind it; also past the file's end.
                 let place = place as usize;
                 for at in [place.saturating_sub(1), place, place + large - 1, place + large] {
@@ -452,7 +453,7 @@ fn edit(run: &mut Run, random: &mut Random) -> Compared {
         run.equal();
     }
     for id in 0..=before.count {
-        for op in [One, Meets] {
+        for op in [One, Ground, Meets] {
             run.compare(&after.refresh(span, &lent).of(op, id))?;
         }
     }

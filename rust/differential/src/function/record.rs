@@ -1,14 +1,16 @@
-//! A sample of what is right of function tables, as the program function_vectors reads it.
+//! A sample of what is right of function tables.
 
 use harness::Random;
 
 use super::case::Op::*;
-use super::case::{right, Case, Layout, LAYOUTS, ROW};
+use super::case::{joined, right, Case, Layout, Op, LAYOUTS, ROW};
 use super::groups::{any_table, edited, Table};
+use crate::case::code;
 use crate::inputs::any_bytes;
-use crate::record::{Fields, Sample, FILL};
+use crate::record::{Record, Sample, FILL};
+use crate::record::{FUNCTION_GROUND, FUNCTION_MEETS, READ_FUNCTION, READ_FUNCTIONS, REFRESH_FUNCTIONS};
 
-const NAMES: [&str; 8] = [
+const NAMES: [&str; 10] = [
     "read_functions legacy16",
     "read_functions modern12",
     "read_function legacy16",
@@ -17,19 +19,22 @@ const NAMES: [&str; 8] = [
     "refresh_functions modern12",
     "function_meets legacy16",
     "function_meets modern12",
+    "function_ground legacy16",
+    "function_ground modern12",
 ];
 
 /// The rows for which the program has room, besides one that is not lent.
 const MOST_ROWS: usize = 15;
 
-fn group(case: &Case) -> usize {
-    let op = match case.op {
-        Read => 0,
-        One => 1,
-        Refresh => 2,
-        Meets => 3,
-    };
-    2 * op + case.layout as usize
+/// The call, and its group among those of the same layout.
+fn call(op: Op) -> (u64, usize) {
+    match op {
+        Read => (READ_FUNCTIONS, 0),
+        One => (READ_FUNCTION, 1),
+        Refresh => (REFRESH_FUNCTIONS, 2),
+        Meets => (FUNCTION_MEETS, 3),
+        Ground => (FUNCTION_GROUND, 4),
+    }
 }
 
 fn answers(group: usize) -> &'static [u32] {
@@ -37,7 +42,8 @@ fn answers(group: usize) -> &'static [u32] {
         0 => &[0, 2, 3, 4],
         1 => &[0, 2, 3],
         2 => &[0, 2, 3, 4, 10],
-        _ => &[0],
+        3 => &[0, 2, 3, 10],
+        _ => &[0, 2, 3],
     }
 }
 
@@ -45,47 +51,39 @@ fn answers(group: usize) -> &'static [u32] {
 fn add(sample: &mut Sample, case: Case) {
     assert!(case.table.len() <= MOST_ROWS * ROW);
     assert!(case.table.iter().all(|&word| word == FILL));
-    let Case {
-        op,
-        start,
-        count,
-        low,
-        high,
-        ..
-    } = case;
     let mut table = case.table.to_vec();
     let answer = right(&case, &mut table);
-    // A read that is accepted answers no number.
-    let told = answer.map(|n| [if let Refresh | Meets = op { n } else { 0 } as usize, 0]);
-    let fields = Fields::default()
-        .numbers(&[start, count as usize, low, high, case.table.len()])
-        .bytes(case.file)
-        .told(told)
-        .table(&table);
-    sample.add(group(&case), answer.map_or_else(|why| why.0, |_| 0), fields);
+    let (call, group) = call(case.op);
+    let asked = [case.start, case.low, case.high, case.table.len()].map(|n| n as u64);
+    let record = Record::new(call, &asked, &[case.layout, case.count], case.file);
+    let told = code(answer);
+    // Whether a span is met, and where a function is read from, are told, not written.
+    let record = match case.op {
+        Meets => record.answer(&[told, 0]),
+        Ground if answer.is_ok() => record.answer(&[told, joined(&table[..2]) as u64, joined(&table[2..]) as u64]),
+        Ground => record.answer(&[told, 0, 0]),
+        _ => record.answer(&[told, 0]).table(&table),
+    };
+    let group = 2 * group + case.layout as usize;
+    sample.add(group, answer.map_or_else(|why| why.0, |_| 0), record);
 }
 
 pub fn write(mut random: Random) -> (Vec<u8>, Vec<String>) {
-    let mut sample = Sample::new(&NAMES);
+    let mut sample = Sample::new("function", &NAMES);
     worked(&mut sample);
     for layout in LAYOUTS {
         edges(&mut sample, &mut random, layout);
         places(&mut sample, &mut random, layout);
         apart(&mut sample, &mut random, layout);
     }
-    while sample.more(50_000) {
+    while sample.fewer(730) {
         edit(&mut sample, &mut random);
     }
     sample.done(answers)
 }
 
 fn table(layout: Layout, file: &[u8], count: u32) -> Table {
-    Table {
-        file: file.to_vec(),
-        layout,
-        start: 0,
-        count,
-    }
+    Table { file: file.to_vec(), layout, start: 0, count }
 }
 
 /// The lent words that a case of so many rows has, with some over.
@@ -111,10 +109,7 @@ fn worked(sample: &mut Sample) {
         add(sample, read.case(Read, &lent(1, 3)));
         // Cut at every byte.
         for len in 0..header.len() {
-            add(
-                sample,
-                table(layout, &header[..len], 1).case(Read, &lent(1, 0)),
-            );
+            add(sample, table(layout, &header[..len], 1).case(Read, &lent(1, 0)));
         }
         // A large header that just fits, and one cut by a byte.
         let mut large = table(layout, &vec![0; layout.own() + layout.large()], 1);
@@ -146,15 +141,11 @@ fn edges(sample: &mut Sample, random: &mut Random, layout: Layout) {
     let table = lent(2, 1);
     let far = [1 << 30, 1 << 32, 1 << 63, usize::MAX];
     for start in [0, 5, 6, len - 1, len, len + 1].into_iter().chain(far) {
-        for op in [Read, One, Refresh, Meets] {
-            let high = if op == Read || op == One { 0 } else { len };
+        for op in [Read, One, Refresh, Ground, Meets] {
+            let high = if op == Refresh || op == Meets { len } else { 0 };
+            let table = if op == Ground { &lent(0, 4) } else { &table };
             for count in [0, 1, 2] {
-                let case = Case {
-                    start,
-                    count,
-                    high,
-                    ..made.case(op, &table)
-                };
+                let case = Case { start, count, high, ..made.case(op, table) };
                 add(sample, case);
             }
         }
@@ -175,14 +166,7 @@ fn edges(sample: &mut Sample, random: &mut Random, layout: Layout) {
         add(sample, made.refresh((low, high), &table));
         add(sample, made.refresh((low, high), &[]));
         let meets = made.refresh((low, high), &table);
-        add(
-            sample,
-            Case {
-                op: Meets,
-                count: 0,
-                ..meets
-            },
-        );
+        add(sample, Case { op: Meets, count: 0, ..meets });
     }
     for low in far {
         add(sample, made.refresh((0, low), &table));
@@ -207,31 +191,17 @@ fn places(sample: &mut Sample, random: &mut Random, layout: Layout) {
     let far = [1 << 24, 1 << 25, (1 << 32) - 1];
     let farther = [1 << 32, (1 << 41) - 1];
     let farther = farther.into_iter().filter(|_| layout == Layout::Legacy);
-    for place in [
-        0,
-        3,
-        last - 1,
-        last,
-        last + 1,
-        len as u64 - 1,
-        len as u64,
-        len as u64 + 1,
-    ]
-    .into_iter()
-    .chain(far)
-    .chain(farther)
+    for place in [0, 3, last - 1, last, last + 1, len as u64 - 1, len as u64, len as u64 + 1]
+        .into_iter()
+        .chain(far)
+        .chain(farther)
     {
         let mut made = table(layout, &any_bytes(random, len), 1);
         made.point(random, 0, place);
-        for op in [Read, One] {
+        for op in [Read, One, Ground] {
             let count = if op == Read { 1 } else { 0 };
-            add(
-                sample,
-                Case {
-                    count,
-                    ..made.case(op, &lent(1, 0))
-                },
-            );
+            let table = if op == Ground { lent(0, 4) } else { lent(1, 0) };
+            add(sample, Case { count, ..made.case(op, &table) });
         }
         let place = place as usize;
         let ends = [place, place + large];
@@ -241,14 +211,7 @@ fn places(sample: &mut Sample, random: &mut Random, layout: Layout) {
                 if at <= len {
                     add(sample, refresh);
                 }
-                add(
-                    sample,
-                    Case {
-                        op: Meets,
-                        count: 0,
-                        ..refresh
-                    },
-                );
+                add(sample, Case { op: Meets, count: 0, ..refresh });
             }
         }
     }
@@ -286,12 +249,5 @@ fn edit(sample: &mut Sample, random: &mut Random) {
         add(sample, Case { count: id, ..one });
     }
     let meets = after.refresh(span, &table);
-    add(
-        sample,
-        Case {
-            op: Meets,
-            count: id,
-            ..meets
-        },
-    );
+    add(sample, Case { op: Meets, count: id, ..meets });
 }

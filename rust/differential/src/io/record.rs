@@ -1,13 +1,34 @@
-//! A sample of the Rust's answers, as the program io_vectors reads it from its standard input. docs/COMPARISON.md has the
-//! form of a record.
+//! A sample of the Rust's answers on the cursor layer.
 
-use harness::{count, Random};
+use harness::Random;
 
 use super::case::Op::*;
 use super::case::{rust, Answer, Case, Op, OPS, PLAIN};
 use super::groups::any_byte;
+use crate::case::code;
+use crate::record::{Record, Sample, IO};
 
-const MOST_BYTES: usize = 60_000;
+const NAMES: [&str; 16] = [
+    "DWARF 5, section 7.6, unsigned",
+    "DWARF 5, section 7.6, signed",
+    "read_u8",
+    "read_i8",
+    "read_u16",
+    "read_u32",
+    "read_u64",
+    "read_i32",
+    "read_f64",
+    "read_uleb128",
+    "read_sleb128",
+    "read_cstring",
+    "read_length_prefixed_string",
+    "read_bytes",
+    "seek",
+    "align",
+];
+
+/// The group of the first call.
+const CALLS: usize = 2;
 
 /// The worked examples of DWARF 5, section 7.6.
 const UNSIGNED: [(u64, &[u8]); 6] = [
@@ -29,9 +50,12 @@ const SIGNED: [(i64, &[u8]); 8] = [
     (-129, &[0xFF, 0x7E]),
 ];
 
-/// Every refusal number that the Rust can show, call by call; 0 is accepted.
-fn shown(op: Op) -> &'static [u32] {
-    match op {
+/// Every refusal number that the Rust can show, group by group; 0 is accepted.
+fn answers(group: usize) -> &'static [u32] {
+    let Some(call) = group.checked_sub(CALLS) else {
+        return &[0];
+    };
+    match OPS[call] {
         Uleb128 | Sleb128 | LengthPrefixedString => &[0, 3, 5],
         Cstring => &[0, 9],
         Seek => &[0, 2],
@@ -40,59 +64,59 @@ fn shown(op: Op) -> &'static [u32] {
     }
 }
 
-#[derive(Default)]
-struct Sample {
-    bytes: Vec<u8>,
-    records: Vec<(Op, u32)>,
+/// Adds one case with the Rust's answer to the group of its call.
+fn add(sample: &mut Sample, op: Op, input: &[u8], at: usize, argument: usize) {
+    added(sample, CALLS + op as usize, op, input, at, argument);
 }
 
-impl Sample {
-    /// Adds one case with the Rust's answer, unless it is no longer small enough.
-    fn add(&mut self, op: Op, input: &[u8], at: usize, argument: usize) -> Answer {
-        let case = Case {
-            op,
-            input,
-            at,
-            argument,
-        };
-        let (answer, _) = rust(&case);
-        let [first, second] = answer.value;
-        let mut record = vec![op as u8, at as u8];
-        record.extend((argument as u64).to_le_bytes());
-        record.push(input.len() as u8);
-        record.extend(input);
-        record.push(answer.number as u8);
-        record.push(answer.at as u8);
-        record.extend((first + (second << 32)).to_le_bytes());
-        assert!(input.len() <= 64 && at <= input.len());
-        if self.bytes.len() + record.len() <= MOST_BYTES {
-            self.bytes.extend(record);
-            self.records.push((op, answer.number));
-        }
-        answer
-    }
+fn added(
+    sample: &mut Sample,
+    group: usize,
+    op: Op,
+    input: &[u8],
+    at: usize,
+    argument: usize,
+) -> Answer {
+    assert!(at <= input.len());
+    let (answer, _) = rust(&Case { op, input, at, argument });
+    let call = IO + op as u64;
+    let [first, second] = answer.value;
+    // A value that is no unsigned number stands among what is asked, in the bits of its type, and the answer has a 1.
+    let value =
+        |bits: u64, bit| Record::new(call, &[at as u64, first & bits], &[], input).value(1, bit);
+    let (record, value) = match op {
+        I8 => (value(0xFF, 1), [1, 0]),
+        I32 => (value(0xFFFF_FFFF, 1), [1, 0]),
+        Sleb128 => (value(u64::MAX, 1), [1, 0]),
+        // Another exponent, so that a NaN is none.
+        F64 => (value(u64::MAX, 1 << 62), [1, 0]),
+        _ => (Record::new(call, &[at as u64, argument as u64], &[], input), [first, second]),
+    };
+    let code = code(if answer.number == 0 { Ok(0) } else { Err((answer.number, 0)) });
+    let record = record.answer(&[code, answer.at as u64, value[0], value[1]]);
+    sample.add(group, answer.number, record);
+    answer
 }
 
 pub fn write(mut random: Random) -> (Vec<u8>, Vec<String>) {
-    let mut sample = Sample::default();
+    let mut sample = Sample::new("io", &NAMES);
     for (value, bytes) in UNSIGNED {
-        let answer = sample.add(Uleb128, bytes, 0, 0);
+        let answer = added(&mut sample, 0, Uleb128, bytes, 0, 0);
         assert_eq!((answer.number, answer.value[0]), (0, value));
     }
     for (value, bytes) in SIGNED {
-        let answer = sample.add(Sleb128, bytes, 0, 0);
+        let answer = added(&mut sample, 1, Sleb128, bytes, 0, 0);
         assert_eq!((answer.number, answer.value[0] as i64), (0, value));
     }
     edges(&mut sample);
     floats(&mut sample);
     leb128(&mut sample, &mut random);
-    while sample.bytes.len() < MOST_BYTES - 128 {
+    while sample.fewer(2_000) {
         for op in OPS {
             any(&mut sample, &mut random, op);
         }
     }
-    let lines = OPS.map(|op| covered(&sample, op)).to_vec();
-    (sample.bytes, lines)
+    sample.done(answers)
 }
 
 /// Short inputs at each of their cursors.
@@ -100,39 +124,32 @@ fn edges(sample: &mut Sample) {
     let input = [0x81, 0xFE, 0x03, 0x84, 0x7F, 0x86, 0x07, 0xF8, 0x09];
     for op in PLAIN {
         for at in 0..=input.len() {
-            sample.add(op, &input, at, 0);
+            add(sample, op, &input, at, 0);
         }
-        sample.add(op, &[], 0, 0);
+        add(sample, op, &[], 0, 0);
     }
     let far = [1 << 32, 1 << 63, usize::MAX];
     for at in [0, 1, 4, 5] {
         for argument in [0, 1, 5 - at, 6 - at].into_iter().chain(far) {
-            sample.add(Bytes, &input[..5], at, argument);
+            add(sample, Bytes, &input[..5], at, argument);
         }
         for argument in [0, 4, 5, 6].into_iter().chain(far) {
-            sample.add(Seek, &input[..5], at, argument);
+            add(sample, Seek, &input[..5], at, argument);
         }
         for argument in (0..=9).chain(far) {
-            sample.add(Align, &input[..5], at, argument);
+            add(sample, Align, &input[..5], at, argument);
         }
     }
     for input in [&b""[..], b"\0", b"a", b"ab\0", b"\0a\0", b"abc", b"\xFF\0"] {
         for at in 0..=input.len() {
-            sample.add(Cstring, input, at, 0);
+            add(sample, Cstring, input, at, 0);
         }
     }
-    for input in [
-        &b""[..],
-        b"\0",
-        b"\x01",
-        b"\x01a",
-        b"\x02a",
-        b"\x80\0a",
-        b"\x81\0a",
-        b"\x03abc\0",
-    ] {
+    for input in
+        [&b""[..], b"\0", b"\x01", b"\x01a", b"\x02a", b"\x80\0a", b"\x81\0a", b"\x03abc\0"]
+    {
         for at in 0..=input.len() {
-            sample.add(LengthPrefixedString, input, at, 0);
+            add(sample, LengthPrefixedString, input, at, 0);
         }
     }
 }
@@ -144,7 +161,7 @@ fn floats(sample: &mut Sample) {
         for exponent in [0, 1, 1023, 2046, 2047] {
             for fraction in [0, 1, 1 << 51, top] {
                 let bits = sign << 63 | exponent << 52 | fraction;
-                sample.add(F64, &bits.to_le_bytes(), 0, 0);
+                add(sample, F64, &bits.to_le_bytes(), 0, 0);
             }
         }
     }
@@ -158,19 +175,19 @@ fn leb128(sample: &mut Sample, random: &mut Random) {
                 let mut input = vec![fill; len - 1];
                 input.push(last);
                 for op in [Uleb128, Sleb128] {
-                    sample.add(op, &input, 0, 0);
+                    add(sample, op, &input, 0, 0);
                 }
             }
             let mut input = vec![0x80; len - 1];
             input.push(last);
-            sample.add(LengthPrefixedString, &input, 0, 0);
+            add(sample, LengthPrefixedString, &input, 0, 0);
         }
     }
     // A length of 2^64 - 1, and of 2^32.
     let most = [0xFF, 0xFF, 0xFF, 0xFF, 0xFF, 0xFF, 0xFF, 0xFF, 0xFF, 0x01];
-    sample.add(LengthPrefixedString, &most, 0, 0);
+    add(sample, LengthPrefixedString, &most, 0, 0);
     let wide = [0x80, 0x80, 0x80, 0x80, 0x10, 0x61];
-    sample.add(LengthPrefixedString, &wide, 0, 0);
+    add(sample, LengthPrefixedString, &wide, 0, 0);
 }
 
 fn any(sample: &mut Sample, random: &mut Random, op: Op) {
@@ -188,22 +205,5 @@ fn any(sample: &mut Sample, random: &mut Random, op: Op) {
         Bytes | Seek | Align => random.below(len + 2),
         _ => 0,
     };
-    sample.add(op, &input, at, argument);
-}
-
-fn covered(sample: &Sample, op: Op) -> String {
-    let of = |number| {
-        let same = |record: &&(Op, u32)| **record == (op, number);
-        sample.records.iter().filter(same).count() as u64
-    };
-    let mut line = format!("{:<22}", format!("{op:?}"));
-    for &number in shown(op) {
-        assert!(of(number) > 0, "no {op:?} with {number} in the sample");
-        let word = match number {
-            0 => "accepted".to_string(),
-            _ => format!("refused {number}"),
-        };
-        line += &format!("  {word} {:>4}", count(of(number)));
-    }
-    line
+    add(sample, op, &input, at, argument);
 }

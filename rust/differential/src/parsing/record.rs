@@ -1,18 +1,16 @@
-//! A sample of what is right of handlers and trailing sections, as the program parsing_vectors reads it.
+//! A sample of what is right of handlers and trailing sections.
 
 use harness::Random;
 
 use super::case::handlers::{self, function, FUNCTION, HAS};
 use super::case::sections;
 use super::groups;
+use crate::case::code;
 use crate::inputs::{any_bytes, any_words};
-use crate::record::{Fields, Sample, FILL};
+use crate::record::{Record, Sample, FILL, READ_HANDLERS, TRAILING_SECTIONS};
 
-const NAMES: [&str; 3] = [
-    "read_handlers",
-    "trailing_sections, sources given",
-    "trailing_sections, no sources",
-];
+const NAMES: [&str; 3] =
+    ["read_handlers", "trailing_sections, sources given", "trailing_sections, no sources"];
 
 /// The words for which the program has room, besides those that are not lent; and those of functions.
 const MOST_LENT: usize = 120;
@@ -21,36 +19,29 @@ const MOST_GIVEN: usize = 112;
 fn answers(group: usize) -> &'static [u32] {
     match group {
         0 => &[0, 4, 11],
-        _ => &[0, 2, 3],
+        _ => &[0, 2, 3, 4],
     }
 }
 
 fn listed(sample: &mut Sample, file: &[u8], functions: &[u32], count: u32, lent: usize) {
     assert!(lent <= MOST_LENT && functions.len() <= MOST_GIVEN);
     let mut rows = vec![FILL; lent];
-    let right = handlers::right(&handlers::Case {
-        file,
-        functions,
-        count,
-        rows: &rows,
-    });
+    let right = handlers::right(&handlers::Case { file, functions, count, rows: &rows });
     if let Ok(found) = &right {
         let words = found.concat();
         rows[..words.len()].copy_from_slice(&words);
     }
     let number = right.as_ref().map_or_else(|why| why.0, |_| 0);
-    let told = right.map(|found| [found.len(), 0]);
-    let fields = Fields::default()
-        .numbers(&[count as usize, lent])
-        .words(functions)
-        .bytes(file)
-        .told(told)
-        .table(&rows);
-    sample.add(0, number, fields);
+    let total = right.as_ref().map_or(0, |found| found.len());
+    let record = Record::new(READ_HANDLERS, &[lent as u64], &[count], file)
+        .answer(&[code(right.map(|_| 0)), total as u64])
+        .table(&rows)
+        .words(functions);
+    sample.add(0, number, record);
 }
 
-/// The sections from a start, by how many regexps, bytes of storage, CJS modules and sources there are; the refusal's
-/// number.
+/// The sections from a start, by how many regexps, bytes of storage, CJS modules and sources there are, with up to three
+/// words over; the refusal's number.
 fn found(
     sample: &mut Sample,
     file: &[u8],
@@ -58,8 +49,19 @@ fn found(
     counts: [u32; 3],
     sources: Option<u32>,
 ) -> u32 {
+    found_in(sample, file, start, counts, sources, sections::ROWS * sections::ROW + start % 4)
+}
+
+fn found_in(
+    sample: &mut Sample,
+    file: &[u8],
+    start: usize,
+    counts: [u32; 3],
+    sources: Option<u32>,
+    lent: usize,
+) -> u32 {
     let [regexps, storage, cjs] = counts;
-    let rows = [FILL; sections::ROWS * sections::ROW];
+    let mut words = vec![FILL; lent];
     // Beside sources that are not given stands a count that must not be looked at.
     let aside = 1 << 20;
     let right = sections::right(&sections::Case {
@@ -70,30 +72,29 @@ fn found(
         cjs,
         sources,
         aside,
-        rows: &rows,
+        rows: &vec![FILL; lent],
     });
     let number = right.as_ref().map_or_else(|why| why.0, |_| 0);
-    let words = right
-        .as_ref()
-        .map_or(rows.to_vec(), |found| found.0.concat());
-    let fields = Fields::default()
-        .numbers(&[start, regexps as usize, storage as usize, cjs as usize])
-        .number(sources.unwrap_or(aside).into())
-        .bytes(file)
-        .told(right.map(|_| [0, 0]))
+    if let Ok((rows, _)) = &right {
+        words[..sections::ROWS * sections::ROW].copy_from_slice(&rows.concat());
+    }
+    let asked = [start as u64, sources.is_some().into(), lent as u64];
+    let counts = [regexps, storage, cjs, sources.unwrap_or(aside)];
+    let record = Record::new(TRAILING_SECTIONS, &asked, &counts, file)
+        .answer(&[code(right.map(|_| sections::ROWS as u32)), 0])
         .table(&words);
-    sample.add(1 + sources.is_none() as usize, number, fields);
+    sample.add(1 + sources.is_none() as usize, number, record);
     number
 }
 
 pub fn write(mut random: Random) -> (Vec<u8>, Vec<String>) {
-    let mut sample = Sample::new(&NAMES);
+    let mut sample = Sample::new("parsing", &NAMES);
     worked(&mut sample);
     most(&mut sample, &mut random);
     places(&mut sample, &mut random);
     tables(&mut sample, &mut random);
     counts(&mut sample, &mut random);
-    while sample.more(57_000) {
+    while sample.fewer(400) {
         any(&mut sample, &mut random);
     }
     sample.done(answers)
@@ -111,6 +112,14 @@ fn worked(sample: &mut Sample) {
     let padded = found(sample, &[0; 10], 8, [0, 1, 0], None);
     assert_eq!(padded, 2);
     found(sample, &[0; 12], 9, [0, 0, 0], None);
+    for sources in [None, Some(0)] {
+        for lent in [0, 4, 19, 20] {
+            found_in(sample, &[0; 12], 0, [0, 0, 0], sources, lent);
+        }
+        // 2 comes before 4, and 4 before the data.
+        found_in(sample, &[0; 12], 13, [0, 0, 0], sources, 19);
+        found_in(sample, &[0; 12], 0, [0, 13, 0], sources, 19);
+    }
 }
 
 /// A thousand handlers, for which no rows are lent, and one more, which are not shown; each with room in the file.

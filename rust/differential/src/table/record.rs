@@ -1,19 +1,17 @@
-//! A sample of what is right of string tables, as the program table_vectors reads it.
+//! A sample of what is right of string tables.
 
 use harness::Random;
 
 use super::case::reads::{self, Op, OPS};
 use super::case::strings::{self, right_bytes, ROW};
 use super::groups::{any_case, small, IDENTIFIER};
+use crate::case::code;
 use crate::inputs::any_bytes;
-use crate::record::{Fields, Sample, FILL};
+use crate::record::{Record, Sample, FILL};
+use crate::record::{DECODE_STRINGS, READ_PAIR_TABLE, READ_U32_TABLE, STRING_BYTES};
 
-const NAMES: [&str; 4] = [
-    "read_u32_table",
-    "read_pair_table",
-    "decode_strings",
-    "string_span, string_bytes",
-];
+const NAMES: [&str; 4] =
+    ["read_u32_table", "read_pair_table", "decode_strings", "string_span, string_bytes"];
 
 /// The words for which the program has room, besides those that are not lent; and those of a table that it is given.
 const MOST_LENT: usize = 120;
@@ -36,29 +34,17 @@ fn written(words: &[u32], lent: usize) -> Vec<u32> {
 
 fn read(sample: &mut Sample, op: Op, input: &[u8], at: usize, count: u32, lent: usize) {
     assert!(lent <= MOST_LENT);
-    let case = reads::Case {
-        op,
-        input,
-        at,
-        count,
-        lent,
-    };
+    let case = reads::Case { op, input, at, count, lent };
     let mut right = case.readers();
     let (answer, words) = right.pop().expect("a reader");
-    assert!(right
-        .iter()
-        .all(|other| other.0 == answer && other.1 == words));
-    let reads::Answer {
-        number,
-        place,
-        at: after,
-    } = answer;
-    let fields = Fields::default()
-        .numbers(&[at, count as usize, lent])
-        .bytes(input)
-        .numbers(&[number as usize, place as usize, after, 0])
+    assert!(right.iter().all(|other| other.0 == answer && other.1 == words));
+    let reads::Answer { number, place, at: after } = answer;
+    let call = [READ_U32_TABLE, READ_PAIR_TABLE][op as usize];
+    let code = code(if number == 0 { Ok(0) } else { Err((number, place)) });
+    let record = Record::new(call, &[at as u64, lent as u64], &[count], input)
+        .answer(&[code, after as u64])
         .table(&written(&words, lent));
-    sample.add(op as usize, number, fields);
+    sample.add(op as usize, number, record);
 }
 
 fn decode(sample: &mut Sample, case: strings::Case) {
@@ -73,35 +59,32 @@ fn decode(sample: &mut Sample, case: strings::Case) {
     }
     let words = right.as_ref().map_or(&[][..], |right| &right.0);
     let number = right.as_ref().map_or_else(|why| why.0, |_| 0);
-    let told = right.as_ref().map(|right| [right.1.len(), 0]);
-    let fields = Fields::default()
-        .numbers(&[case.count as usize, case.lent])
+    let rows = right.as_ref().map(|right| right.1.len() as u32);
+    let record = Record::new(DECODE_STRINGS, &[case.lent as u64], &[case.count], case.storage)
+        .answer(&[code(rows.map_err(|&why| why)), 0])
+        .table(&written(words, case.lent))
         .words(case.kinds)
         .words(case.small)
-        .words(case.overflow)
-        .bytes(case.storage)
-        .told(told.map_err(|&why| why))
-        .table(&written(words, case.lent));
-    sample.add(2, number, fields);
+        .words(case.overflow);
+    sample.add(2, number, record);
 }
 
 fn span(sample: &mut Sample, storage: &[u8], rows: &[u32], index: usize) {
     let (start, len) = right_bytes(storage, rows, index);
-    let fields = Fields::default()
-        .numbers(&[index])
-        .words(rows)
-        .bytes(storage)
-        .told(Ok([start, len]));
-    sample.add(3, 0, fields);
+    let record = Record::new(STRING_BYTES, &[index as u64], &[], storage)
+        .answer(&[start as u64, len as u64])
+        .part(&storage[start..start + len])
+        .words(rows);
+    sample.add(3, 0, record);
 }
 
 pub fn write(mut random: Random) -> (Vec<u8>, Vec<String>) {
-    let mut sample = Sample::new(&NAMES);
+    let mut sample = Sample::new("table", &NAMES);
     worked(&mut sample);
     tables(&mut sample, &mut random);
     entries(&mut sample);
     parts(&mut sample);
-    while sample.more(45_000) {
+    while sample.fewer(1_170) {
         any(&mut sample, &mut random);
     }
     sample.done(answers)
@@ -140,29 +123,10 @@ fn tables(sample: &mut Sample, random: &mut Random) {
     for op in OPS {
         for end in 0..=input.len() {
             let whole = end / (4 * op.width());
-            read(
-                sample,
-                op,
-                &input[..end],
-                0,
-                whole as u32,
-                whole * op.width(),
-            );
+            read(sample, op, &input[..end], 0, whole as u32, whole * op.width());
             read(sample, op, &input[..end], 0, whole as u32 + 1, 8);
         }
-        for at in [
-            1,
-            3,
-            15,
-            16,
-            18,
-            19,
-            20,
-            1 << 30,
-            1 << 32,
-            1 << 63,
-            usize::MAX,
-        ] {
+        for at in [1, 3, 15, 16, 18, 19, 20, 1 << 30, 1 << 32, 1 << 63, usize::MAX] {
             for count in [0, 1, 2] {
                 read(sample, op, &input, at, count, 4);
             }
@@ -238,24 +202,13 @@ fn entries(sample: &mut Sample) {
     ];
     for kinds in runs {
         for count in [0, 2, 4, 5, u32::MAX] {
-            let case = strings::Case {
-                count,
-                kinds,
-                small: &four,
-                lent: 4 * ROW,
-                ..one
-            };
+            let case = strings::Case { count, kinds, small: &four, lent: 4 * ROW, ..one };
             decode(sample, case);
         }
     }
     for lent in [0, 3, 4, 7, 8, 9, 15, 16] {
         for small in [&four[..], &[small(true, 0, 255); 4]] {
-            let case = strings::Case {
-                count: 2,
-                small,
-                lent,
-                ..one
-            };
+            let case = strings::Case { count: 2, small, lent, ..one };
             decode(sample, case);
         }
     }

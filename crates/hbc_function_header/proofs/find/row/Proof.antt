@@ -1,83 +1,41 @@
-use denote.Ref.{now}
-use mathlib.Core.Path.{ap}
-use native.Mathlib.Omega.{arith}
-use Rattle.hbc_io.specs.Answer.{Answer}
-use Rattle.hbc_function_record.specs.declared.Record.{Record}
-use Rattle.hbc_function_header.specs.Header.{rowOf}
-use Rattle.hbc_function_header.proofs.Headers.{is-found, found-own, found-large, row-read}
+use Rattle.hbc_function_header.proofs.Headers.{row-of-layout}
 use borrow.Author.Needs.{needs}
 use Rattle.hbc_function_header.proofs.find.row.Statement.{statement}
 use Rattle.hbc_function_header.proofs.find.row.Tie as tie
 
-where-at-requires : tie.Need-where-at-requires
-where-at-requires c κs = search needs
-
 enum-told : tie.Need-enum-told
 enum-told c = search needs
 
-inline-record-requires : tie.Need-inline-record-requires
-inline-record-requires c κs = search needs
-
-row-words-requires : tie.Need-row-words-requires
-row-words-requires c κs = search needs
-
-slice-aggregate-put-row : tie.Need-slice-aggregate-put-row
-slice-aggregate-put-row c = search needs
-
-put-row-requires : tie.Need-put-row-requires
-put-row-requires c κs = search needs
-
-enum-known-place : tie.Need-enum-known-place
-enum-known-place c = search needs
-
-large-record-requires : tie.Need-large-record-requires
-large-record-requires c κs = search needs
-
-row-words-requires-2 : tie.Need-row-words-requires-2
-row-words-requires-2 c κs = search needs
-
-slice-aggregate-put-row-2 : tie.Need-slice-aggregate-put-row-2
-slice-aggregate-put-row-2 c = search needs
-
-put-row-requires-2 : tie.Need-put-row-requires-2
-put-row-requires-2 c κs = search needs
+legacy-row-requires : tie.Need-legacy-row-requires
+legacy-row-requires c κs = search needs
 
 enum-told-2 : tie.Need-enum-told-2
 enum-told-2 c = search needs
+
+modern-row-requires : tie.Need-modern-row-requires
+modern-row-requires c κs = search needs
 
 same-length : tie.Need-same-length
 same-length c = search needs
 
 returns : tie.Need-returns
-returns c = row-read _ _ _ (omega arith) (found-own _ _ _ (c .before .before .before .before .before .before .before .before .before .where-at .ensures) _ (c .before .before .before .before .before .before .before .enum-told .given .1) (c .before .before .before .before .before .before .inline-record .ensures)) (c .before .before .before .before .before .row-words .ensures) (c .before .before .put-row .ensures)
+returns c = row-of-layout _ _ _ _ _ (c .before .before .before .before .enum-told .given .1) (c .before .before .legacy-row .ensures)
 
 same-length-2 : tie.Need-same-length-2
 same-length-2 c = search needs
 
 returns-2 : tie.Need-returns-2
-returns-2 c = row-read _ _ _ (omega arith) (found-large _ _ _ (c .before .before .before .before .before .before .before .before .before .before .where-at .ensures) _ (omega arith) (c .before .before .before .before .before .before .before .before .place .given .1) (c .before .before .before .before .before .before .large-record .ensures)) (c .before .before .before .before .before .row-words2 .ensures) (c .before .before .put-row2 .ensures)
-
-returns-3 : tie.Need-returns-3
-returns-3 c = ap (λ (a : Answer Record). rowOf a (now (c .before .before .before .before .before .args .row))) (is-found _ _ _ (c .before .before .where-at .ensures) _ (c .enum-told2 .given .1))
+returns-2 c = row-of-layout _ _ _ _ _ (c .before .before .before .before .enum-told2 .given .1) (c .before .before .modern-row .ensures)
 
 pub row-spec : {M : Type 1} → statement M
 row-spec =
     tie.close
     (tie.spec
-    where-at-requires
     enum-told
-    inline-record-requires
-    row-words-requires
-    slice-aggregate-put-row
-    put-row-requires
-    enum-known-place
-    large-record-requires
-    row-words-requires-2
-    slice-aggregate-put-row-2
-    put-row-requires-2
+    legacy-row-requires
     enum-told-2
+    modern-row-requires
     same-length
     returns
     same-length-2
-    returns-2
-    returns-3)
+    returns-2)

@@ -1,4 +1,6 @@
-use mathlib.Core.Path.{sym, _∙_}
+use native.Mathlib.Omega.{arith}
+use denote.Ref.{now}
+use Rattle.hbc_job.proofs.Listings.{has-file, is-listed, is-refused}
 use borrow.Author.Needs.{needs}
 use Rattle.hbc_job.proofs.show.list.Statement.{statement}
 use Rattle.hbc_job.proofs.show.list.Tie as tie
@@ -6,14 +8,14 @@ use Rattle.hbc_job.proofs.show.list.Tie as tie
 parse-job-requires : tie.Need-parse-job-requires
 parse-job-requires c κs = search needs
 
-enum-known-job : tie.Need-enum-known-job
-enum-known-job c = search needs
+enum-known-p : tie.Need-enum-known-p
+enum-known-p c = search needs
 
 sub-list-file : tie.Need-sub-list-file
-sub-list-file c = search needs
+sub-list-file c = let h = has-file (now (c .before .before .before .before .before .args .s)) (c .before .before .before .parse-job .ensures) (c .before .p .given .1) in search needs
 
 part-list-file-start : tie.Need-part-list-file-start
-part-list-file-start c = search needs
+part-list-file-start c = let h = has-file (now (c .before .before .before .before .before .args .s)) (c .before .before .before .parse-job .ensures) (c .before .p .given .1) in search needs
 
 part-list-file-end : tie.Need-part-list-file-end
 part-list-file-end c = search needs
@@ -21,37 +23,29 @@ part-list-file-end c = search needs
 list-file-requires : tie.Need-list-file-requires
 list-file-requires c κs = search needs
 
-enum-told : tie.Need-enum-told
-enum-told c = search needs
-
-refuse-requires : tie.Need-refuse-requires
-refuse-requires c κs = search needs
+enum-known-r : tie.Need-enum-known-r
+enum-known-r c = search needs
 
 refused-requires : tie.Need-refused-requires
 refused-requires c κs = search needs
 
 returns : tie.Need-returns
-returns c = sym (c .before .before .before .before .job .given .1) ∙ c .before .before .before .before .before .before .parse-job .ensures
+returns c = is-listed _ (c .before .before .before .before .before .parse-job .ensures) (c .before .before .before .p .given .1) (c .list-file .ensures)
 
 returns-2 : tie.Need-returns-2
-returns-2 c = sym (c .before .before .job .given .1) ∙ c .before .before .before .before .parse-job .ensures
-
-returns-3 : tie.Need-returns-3
-returns-3 c = search needs
+returns-2 c = is-refused _ (c .before .before .before .before .parse-job .ensures) (c .before .before .r .given .1)
 
 pub list-spec : {M : Type 1} → statement M
 list-spec =
     tie.close
     (tie.spec
     parse-job-requires
-    enum-known-job
+    enum-known-p
     sub-list-file
     part-list-file-start
     part-list-file-end
     list-file-requires
-    enum-told
-    refuse-requires
+    enum-known-r
     refused-requires
     returns
-    returns-2
-    returns-3)
+    returns-2)

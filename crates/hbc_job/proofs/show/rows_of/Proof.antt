@@ -16,6 +16,9 @@ loop-holds c = search needs
 row-requires : tie.Need-row-requires Inv-loop μ-loop
 row-requires c κs = search needs
 
+returns : tie.Need-returns Inv-loop μ-loop
+returns c = search needs
+
 add-id : tie.Need-add-id Inv-loop μ-loop
 add-id c = search needs
 
@@ -25,10 +28,10 @@ loop-less c = search needs
 loop-again : tie.Need-loop-again Inv-loop μ-loop
 loop-again c = search needs
 
-returns : tie.Need-returns Inv-loop μ-loop
-returns c = search needs
+returns-2 : tie.Need-returns-2 Inv-loop μ-loop
+returns-2 c = search needs
 
 pub rows-of-spec : {M : Type 1} → statement M
 rows-of-spec =
     tie.close
-    (tie.spec Inv-loop μ-loop loop-holds row-requires add-id loop-less loop-again returns)
+    (tie.spec Inv-loop μ-loop loop-holds row-requires returns add-id loop-less loop-again returns-2)

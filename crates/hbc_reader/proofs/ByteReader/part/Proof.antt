@@ -23,7 +23,7 @@ use denote.RattleType.{RattleType, owns}
 use denote.Laws.{Is, shows}
 use denote.Memory.{cellAt, partAt}
 use denote.Builtin.{u8}
-use denote.Ref.{RefT, NamedLft, ShrRef, ptr-vals, shr-tells, now}
+use denote.Ref.{RefT, NamedLft, ShrRef, ptr-vals, shr-tells}
 use denote.Signature.{Slot, plain, namedLft}
 use denote.Slice.{ShrSlice, shr-slice-lawful}
 use denote.Steps.{looks, shuts, peeks, heard, nothing}
@@ -37,9 +37,8 @@ use denote.Triple.Spec.{Meets, tripleOf}
 use denote.Triple.Table.{entered, cited}
 use denote.Triple.Walked.{says, Stays, stay-none-ref, stay-none, walkOf, goes-none-ref, goes-none, Walks, ends-at, walked, walk-meets}
 use denote.Exit.{yes}
-use Rattle.hbc_io.specs.Plain.{partOf}
+use Rattle.hbc_io.specs.Plain.{IsPart}
 use Rattle.hbc_io.specs.declared.Span.{Span}
-use Rattle.hbc_reader.specs.Reader.{bytesOf}
 use Rattle.hbc_reader.specs.declared.ByteReader.{ByteReader}
 use Rattle.hbc_reader.proofs.Own.{slice, beside, typed}
 use Rattle.hbc_reader.proofs.ByteReader as T
@@ -95,7 +94,7 @@ module _ {M : Type 1} (𝓤 : URA M) (H : Heap 𝓤) (A : Atoms 𝓤) (W : Given
   Part r u = ShrSlice (named 1) κ′ u8 .own r (u ∷ [])
 
   abbrev Said : RefT (List ℕ) → Type 0
-  Said r = now r ≡ partOf (bytesOf h) p
+  Said r = IsPart (h .«data») p r
 
   -- what is passed to `part`, and what it asks
   abbrev passed : Vals work.signature (κ′, tt)

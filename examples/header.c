@@ -1,0 +1,112 @@
+/* What include/hbc.h says besides its prototypes, as a caller meets it: names, what a refused call leaves, what a refused
+ * refresh asks for. C99 and C++. Prints nothing; at the first test that fails its line, and then ends with status 1. */
+#include <stdio.h>
+#include <string.h>
+
+#include "hbc.h"
+
+#define CHECK(truth)                                                     \
+    do {                                                                 \
+        if (!(truth))                                                    \
+            return fprintf(stderr, "header.c:%d: %s\n", __LINE__, #truth), 1; \
+    } while (0)
+
+/* No two refusals have one number, or this is not compiled. */
+static const char *name(uint64_t code)
+{
+    switch (HBC_NUMBER(code)) {
+    case 0: return "accepted";
+    case HBC_REFUSED_TOO_LONG: return "TOO_LONG";
+    case HBC_REFUSED_PAST_END: return "PAST_END";
+    case HBC_REFUSED_CUT: return "CUT";
+    case HBC_REFUSED_TOO_FEW_ROWS: return "TOO_FEW_ROWS";
+    case HBC_REFUSED_LEB128_TOO_LONG: return "LEB128_TOO_LONG";
+    case HBC_REFUSED_ZERO_ALIGNMENT: return "ZERO_ALIGNMENT";
+    case HBC_REFUSED_SERIES_PAST_END: return "SERIES_PAST_END";
+    case HBC_REFUSED_NO_OVERFLOW_PAIR: return "NO_OVERFLOW_PAIR";
+    case HBC_REFUSED_NO_ZERO: return "NO_ZERO";
+    case HBC_REFUSED_BAD_SPAN: return "BAD_SPAN";
+    case HBC_REFUSED_TOO_FEW_TO_READ: return "TOO_FEW_TO_READ";
+    case HBC_REFUSED_NO_SUCH_LAYOUT: return "NO_SUCH_LAYOUT";
+    default: return "unnamed";
+    }
+}
+
+static int is(uint64_t code, const char *expected) { return strcmp(name(code), expected) == 0; }
+
+/* Each refusal by a call that has it. TOO_LONG looks at the length alone: the byte behind it is never read. */
+static int refusals(void)
+{
+    static const uint8_t bytes[12] = {0x80, 0x80, 0x80, 0x80, 0x80, 0x80, 0x80, 0x80, 0x80, 0x80, 0x80, 0x80};
+    static const uint32_t small[] = {255u << 24}, none[2] = {0, 0};
+    uint32_t rows[HBC_FUNCTION_WORDS], kinds[1];
+    uint64_t value, payloads[1];
+    size_t at = 0, start, size;
+    CHECK(is(hbc_seek(bytes, (size_t)HBC_LIMIT + 1, &at, 0), "TOO_LONG"));
+    CHECK(is(hbc_seek(bytes, 12, &at, 13), "PAST_END"));
+    CHECK(is(hbc_read_bytes(bytes, 12, &at, 13, &start, &size), "CUT"));
+    CHECK(is(hbc_read_functions(bytes, 12, HBC_LAYOUT_MODERN12, 0, 1, rows, 15), "TOO_FEW_ROWS"));
+    CHECK(is(hbc_read_uleb128(bytes, 12, &at, &value), "LEB128_TOO_LONG") && at == 10);
+    CHECK(is(hbc_align(bytes, 12, &at, 0), "ZERO_ALIGNMENT"));
+    CHECK(is(hbc_read_series(bytes, 12, 12, 1, kinds, 1, payloads, 1), "SERIES_PAST_END"));
+    CHECK(is(hbc_decode_strings(1, none, 0, small, 1, none, 0, bytes, 12, rows, HBC_STRING_WORDS), "NO_OVERFLOW_PAIR"));
+    CHECK(is(hbc_read_cstring(bytes, 12, &at, &start, &size), "NO_ZERO") && at == 12);
+    CHECK(is(hbc_refresh_functions(bytes, 12, HBC_LAYOUT_MODERN12, 0, 0, 1, 0, rows, 0), "BAD_SPAN"));
+    CHECK(is(hbc_read_handlers(bytes, 12, none, 0, 1, rows, 0, &size), "TOO_FEW_TO_READ"));
+    CHECK(is(hbc_read_functions(bytes, 12, 2, 0, 0, rows, 0), "NO_SUCH_LAYOUT"));
+    return 0;
+}
+
+/* A refused call leaves start and size, numbers and tables as they were. */
+static int left(void)
+{
+    static const uint8_t bytes[] = {5, 'a', 'b'};
+    size_t at = 0, start = 77, size = 88;
+    uint32_t number = 99, rows[HBC_SECTIONS * HBC_SECTION_WORDS];
+    CHECK(is(hbc_read_length_prefixed_string(bytes, 3, &at, &start, &size), "CUT"));
+    CHECK(at == 1 && start == 77 && size == 88);
+    CHECK(is(hbc_read_cstring(bytes, 3, &at, &start, &size), "NO_ZERO") && start == 77 && size == 88);
+    CHECK(is(hbc_read_bytes(bytes, 3, &at, 1, &start, &size), "CUT") && start == 77 && size == 88);
+    at = 0;
+    CHECK(is(hbc_read_u32(bytes, 3, &at, &number), "CUT") && number == 99 && at == 0);
+    memset(rows, 0xAB, sizeof rows);
+    CHECK(is(hbc_trailing_sections(bytes, 3, 0, 1, 0, 0, false, 0, rows, sizeof rows / sizeof *rows), "CUT"));
+    CHECK(rows[0] == 0xABABABABu && rows[19] == 0xABABABABu);
+    CHECK(hbc_trailing_sections(bytes, 3, 0, 0, 0, 0, false, 0, rows, sizeof rows / sizeof *rows) == HBC_SECTIONS);
+    CHECK(rows[HBC_FUNCTION_SOURCES * HBC_SECTION_WORDS + HBC_SECTION_ABSENT] == 1);
+    CHECK(rows[HBC_BYTECODE * HBC_SECTION_WORDS + HBC_SECTION_SIZE] == 3);
+    return 0;
+}
+
+/* Of two functions the size of the first is changed, and the second gets a large header that is cut: refused. The flag is
+ * undone by a call whose span does not hold the first edit: the first row is then out of date, until a span holds it. */
+static int refresh(void)
+{
+    uint8_t file[32] = {0};
+    uint32_t rows[2 * HBC_FUNCTION_WORDS];
+    const size_t words = sizeof rows / sizeof *rows;
+    CHECK(hbc_read_functions(file, 32, HBC_LAYOUT_LEGACY16, 0, 2, rows, words) == 2);
+    file[4] = 9;
+    file[16] = 8; /* a large header at byte 8 would need 31 bytes */
+    file[31] = HBC_FLAG_OVERFLOWED;
+    CHECK(is(hbc_refresh_functions(file, 32, HBC_LAYOUT_LEGACY16, 0, 2, 4, 32, rows, words), "CUT"));
+    CHECK(rows[HBC_FUNCTION_SIZE] == 0);
+    file[31] = 0;
+    CHECK(hbc_refresh_functions(file, 32, HBC_LAYOUT_LEGACY16, 0, 2, 31, 32, rows, words) == 1);
+    CHECK(rows[HBC_FUNCTION_SIZE] == 0);
+    CHECK(hbc_refresh_functions(file, 32, HBC_LAYOUT_LEGACY16, 0, 2, 4, 32, rows, words) == 2);
+    CHECK(rows[HBC_FUNCTION_SIZE] == 9);
+    CHECK(hbc_function_meets(file, 32, HBC_LAYOUT_LEGACY16, 0, 1, 4, 32) == 1);
+    CHECK(hbc_function_meets(file, 32, HBC_LAYOUT_LEGACY16, 0, 1, 4, 16) == 0);
+    return 0;
+}
+
+/* The numbers of the version are those of its text. */
+static int version(void)
+{
+    const char text[] = {'0' + HBC_VERSION_MAJOR, '.', '0' + HBC_VERSION_MINOR, '.', '0' + HBC_VERSION_PATCH, 0};
+    CHECK(strcmp(text, HBC_VERSION) == 0);
+    return 0;
+}
+
+int main(void) { return refusals() || left() || refresh() || version(); }
