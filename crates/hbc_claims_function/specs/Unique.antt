@@ -5,6 +5,9 @@ use Rattle.hbc_function_record.proofs.large_size.Reads as of-large-size
 use Rattle.hbc_function_record.proofs.inline_record.Reads as of-inline-record
 use Rattle.hbc_function_record.proofs.large_record.Reads as of-large-record
 use Rattle.hbc_function_record.proofs.header_link.Reads as of-header-link
+use Rattle.hbc_function_record.proofs.is_flagged.Reads as of-is-flagged
+use Rattle.hbc_function_record.proofs.legacy_row.Reads as of-legacy-row
+use Rattle.hbc_function_record.proofs.modern_row.Reads as of-modern-row
 use Rattle.hbc_function_record.proofs.row_words.Reads as of-row-words
 use Rattle.hbc_function_header.proofs.read_function.Reads as of-read-function
 use Rattle.hbc_function_header.proofs.check_function.Reads as of-check-function
@@ -22,6 +25,9 @@ pub record Unique : Type 0 where
   pub «inline_record» : One of-inline-record.Learnt
   pub «large_record» : One of-large-record.Learnt
   pub header_link : One of-header-link.Learnt
+  pub is_flagged : One of-is-flagged.Learnt
+  pub legacy_row : One of-legacy-row.Learnt
+  pub modern_row : One of-modern-row.Learnt
   pub row_words : One of-row-words.Learnt
   pub read_function : One of-read-function.Learnt
   pub check_function : One of-check-function.Learnt

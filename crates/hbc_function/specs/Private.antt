@@ -2,6 +2,12 @@
 use Prim.Native.Nat.{ℕ, _≤_, _<_}
 use mathlib.Core.Path.{_≡_}
 use mathlib.Core.Bool.{Bool, true, false}
+use mathlib.Core.List.{List}
+use Rattle.hbc_io.specs.Answer.{gives}
+use Rattle.hbc_io.specs.Plain.{wordAt}
+use Rattle.hbc_function_record.specs.declared.Layout.{Layout}
+use Rattle.hbc_function_record.specs.Record.{sizeOf, inlineOf}
+use Rattle.hbc_function_header.specs.Header.{headerAt, functionAt}
 
 -- functions `from` to i - 1 are not chosen
 pub record Skipped (chosen : ℕ → Bool) (from count i : ℕ) : Type 0 where
@@ -13,3 +19,7 @@ pub record Skipped (chosen : ℕ → Bool) (from count i : ℕ) : Type 0 where
 pub record Next (chosen : ℕ → Bool) (from count r : ℕ) : Type 0 where
   pub skipped : Skipped chosen from count r
   pub met : r < count → chosen r ≡ true
+
+-- a function that is known to be read from its own header alone
+abbrev pub Plain : List ℕ → Layout → ℕ → ℕ → Bool → Type 0
+Plain s layout start i r = r ≡ true → gives (inlineOf layout i (wordAt (sizeOf layout) s (headerAt layout start i))) ≡ functionAt s layout start i

@@ -12,7 +12,7 @@ ghost use Rattle.hbc_function_header.specs.Header.{saysReading, functionAt};
 ghost use Rattle.hbc_function_header.specs.Meets.{meets};
 ghost use Rattle.hbc_function.specs.Table.{all, scan, rowBy, putRows, ReadFunctions};
 ghost use Rattle.hbc_function.specs.Refresh.{saysRefreshed, held, putMet, RefreshFunctions};
-ghost use Rattle.hbc_function.specs.Private.{Next};
+ghost use Rattle.hbc_function.specs.Private.{Next, Plain};
 use hbc_function_header::Meeting;
 use hbc_function_header::Reading;
 use hbc_function_header::check_function;
@@ -21,9 +21,13 @@ use hbc_function_header::function_row;
 use hbc_function_record::Layout;
 use hbc_function_record::WIDTH;
 use hbc_function_record::header_size;
+use hbc_function_record::is_flagged;
+use hbc_function_record::legacy_row;
+use hbc_function_record::modern_row;
 use hbc_io::LIMIT;
 use hbc_io::Refusal;
 use hbc_io::refuse;
+use hbc_rows::put_row;
 
 // How many functions were read again, or the refusal.
 pub enum Refreshed {
@@ -31,11 +35,27 @@ pub enum Refreshed {
     Refused(Refusal),
 }
 
+// Whether function `id` is known to be read from its own header alone: most are, and cost the least.
+fn is_plain(s: &[u8], layout: Layout, start: usize, id: u32) -> bool
+    requires { ⌜ (start ≤ length (now s)) × (length (now s) ≤ limit) ⌝ }
+    ensures { λ r. ⌜ Plain (now (s .entry)) layout start id r ⌝ }
+{
+    let size = header_size(layout);
+    let at = start + (id as usize) * size;
+    if s.len() < at + size {
+        return false;
+    }
+    !is_flagged(s, layout, at)
+}
+
 // Whether function `id` of a table that starts in a file of at most 2^30 bytes can be read.
 fn check_at(s: &[u8], layout: Layout, start: usize, id: u32) -> Reading
     requires { ⌜ (start ≤ length (now s)) × (length (now s) ≤ limit) ⌝ }
     ensures { λ r. ⌜ saysReading r ≡ asked (functionAt (now (s .entry)) layout start id) ⌝ }
 {
+    if is_plain(s, layout, start, id) {
+        return Reading::Read;
+    }
     check_function(s, layout, start, id)
 }
 
@@ -58,6 +78,35 @@ fn write_row(s: &[u8], layout: Layout, start: usize, id: u32, table: &mut [u32])
 {
     let at = (id as usize) * WIDTH;
     function_row(s, layout, start, id, &mut table[at..at + WIDTH]);
+}
+
+// The same, of one layout.
+fn write_legacy_row(s: &[u8], start: usize, id: u32, table: &mut [u32])
+    requires { ⌜ (start ≤ length (now s)) × (length (now s) ≤ limit) ⌝ }
+    requires { ⌜ id * width + width ≤ length (now table) ⌝ }
+    ensures { λ _. ⌜ now (table .exit) ≡ putRow width (now (table .entry)) id (rowBy (functionAt (now (s .entry)) Legacy16 start id)) ⌝ }
+{
+    if is_plain(s, Layout::Legacy16, start, id) {
+        let at = start + (id as usize) * header_size(Layout::Legacy16);
+        let words = legacy_row(s, at, id);
+        put_row(table, id as usize, &words);
+        return;
+    }
+    write_row(s, Layout::Legacy16, start, id, table);
+}
+
+fn write_modern_row(s: &[u8], start: usize, id: u32, table: &mut [u32])
+    requires { ⌜ (start ≤ length (now s)) × (length (now s) ≤ limit) ⌝ }
+    requires { ⌜ id * width + width ≤ length (now table) ⌝ }
+    ensures { λ _. ⌜ now (table .exit) ≡ putRow width (now (table .entry)) id (rowBy (functionAt (now (s .entry)) Modern12 start id)) ⌝ }
+{
+    if is_plain(s, Layout::Modern12, start, id) {
+        let at = start + (id as usize) * header_size(Layout::Modern12);
+        let words = modern_row(s, at, id);
+        put_row(table, id as usize, &words);
+        return;
+    }
+    write_row(s, Layout::Modern12, start, id, table);
 }
 
 // The first refusal among functions 0 to count - 1: a loop for each layout, so that no turn asks which it is.
@@ -107,7 +156,7 @@ fn write_legacy(s: &[u8], start: usize, from: u32, to: u32, table: &mut [u32])
 {
     let mut id = from;
     while id < to {
-        write_row(s, Layout::Legacy16, start, id, table);
+        write_legacy_row(s, start, id, table);
         id += 1;
     }
 }
@@ -119,7 +168,7 @@ fn write_modern(s: &[u8], start: usize, from: u32, to: u32, table: &mut [u32])
 {
     let mut id = from;
     while id < to {
-        write_row(s, Layout::Modern12, start, id, table);
+        write_modern_row(s, start, id, table);
         id += 1;
     }
 }

@@ -20,7 +20,8 @@ use Rattle.hbc_function_record.specs.declared.Layout.{Layout}
 use Rattle.hbc_function_record.specs.declared.Layout.the-variants as lay
 use Rattle.hbc_function_record.specs.declared.Record.{Record}
 use Rattle.hbc_function_record.specs.declared.Link.{Link}
-use Rattle.hbc_function_record.specs.Record.{sizeOf, largeOf, inlineOf, largeIn, linkOf}
+use Rattle.hbc_function_record.specs.declared.Link.the-variants as link
+use Rattle.hbc_function_record.specs.Record.{sizeOf, largeOf, inlineOf, largeIn, flagsOf, overflowed, linkOf}
 use Rattle.hbc_function_record.specs.Row.{width, rowWords}
 use Rattle.hbc_function_record.proofs.Records.{large-there}
 use Rattle.hbc_function_record.proofs.Rows.{words-length}
@@ -122,6 +123,15 @@ module _ (s : List ℕ) (layout : Layout) (at : ℕ) where
     unfolding whereAt
     found-large {place = place} h f p =
         ap gives (p ∙ sym (large-there s layout place i h (where-there s (largeOf layout) (groundOf s layout at) (sym e ∙ f)))) ∙ is-found f
+
+-- a function whose header is in the file and not flagged is read from it
+pub plain-found : (s : List ℕ) (layout : Layout) (at i : ℕ) → at + sizeOf layout ≤ length s
+    → overflowed (flagsOf (inlineOf layout 0 (wordAt (sizeOf layout) s at))) ≡ false → gives (inlineOf layout i (wordAt (sizeOf layout) s at)) ≡ recordAt s layout at i
+unfolding whereOf linkOf choose
+plain-found s layout at i h o =
+    let l : link.Own ≡ linkOf (inlineOf layout 0 (wordAt (sizeOf layout) s at)) = sym (rw o) in
+    let g : ground.Inline at ≡ groundOf s layout at = ground-by s layout at h l refl in
+    found-own s layout at (where-at s layout at g refl) i refl refl
 
 -- ---- the tests of a call, whatever it answers
 

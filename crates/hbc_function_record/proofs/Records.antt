@@ -20,6 +20,8 @@ use Rattle.hbc_function_record.specs.declared.Record.the-variants as rec
 use Rattle.hbc_function_record.specs.declared.Link.{Link}
 use Rattle.hbc_function_record.specs.declared.Link.the-variants as link
 use Rattle.hbc_function_record.specs.Record.{sizeOf, largeOf, legacyOf, modernOf, legacyLarge, modernLarge, inlineOf, largeAt, largeIn, flagsOf, overflowed, legacyPlace, modernPlace, placeOf, linkOf}
+use Rattle.hbc_function_record.specs.declared.Record.{Record}
+use Rattle.hbc_function_record.specs.Row.{legacyWords, modernWords, rowWords}
 use Rattle.hbc_function_record.specs.Private.{isThere}
 
 -- two words of a header as one number
@@ -121,6 +123,39 @@ module _ {q : Modern} {n m : ℕ} (e : q ≡ modernOf 0 n) (f : n ≡ m) where
   pub modern-linked : {p : ℕ} → overflowed (q .flags) ≡ true → p ≡ modernPlace q → link.Large p ≡ linkOf (inlineOf lay.Modern12 0 m)
   unfolding linkOf choose inlineOf flagsOf placeOf
   modern-linked o g = rw (← f, ← e, o, g)
+
+-- ---- whether it is flagged
+
+pub legacy-flag : {q : Legacy} {b : Bool} {n m : ℕ} → b ≡ overflowed (q .flags) → q ≡ legacyOf 0 n → n ≡ m → b ≡ overflowed (flagsOf (inlineOf lay.Legacy16 0 m))
+unfolding inlineOf flagsOf
+legacy-flag d e f = rw (← f, ← e) d
+
+pub modern-flag : {q : Modern} {b : Bool} {n m : ℕ} → b ≡ overflowed (q .flags) → q ≡ modernOf 0 n → n ≡ m → b ≡ overflowed (flagsOf (inlineOf lay.Modern12 0 m))
+unfolding inlineOf flagsOf
+modern-flag d e f = rw (← f, ← e) d
+
+flag-zeros : (layout : Layout) → false ≡ overflowed (flagsOf (inlineOf layout 0 0))
+unfolding inlineOf legacyOf modernOf flagsOf overflowed field
+flag-zeros lay.Legacy16 = refl
+flag-zeros lay.Modern12 = refl
+
+module _ (s : List ℕ) (layout : Layout) (at : ℕ) where
+  pub flag-none : length s < at + sizeOf layout → false ≡ overflowed (flagsOf (inlineOf layout 0 (wordAt (sizeOf layout) s at)))
+  flag-none h = flag-zeros layout ∙ ap (λ (r : Record). overflowed (flagsOf r)) (inline-none s layout at 0 (sizeOf layout) h)
+
+  pub flag-there : {b : Bool} {own : Layout} → b ≡ overflowed (flagsOf (inlineOf own 0 (leAt s at (sizeOf own)))) → layout ≡ own → at + sizeOf own ≤ length s
+      → b ≡ overflowed (flagsOf (inlineOf layout 0 (wordAt (sizeOf layout) s at)))
+  flag-there {own = own} e f h = rw (f, word-there (sizeOf own) s at h) e
+
+-- ---- the row of an inline header
+
+pub legacy-row-is : {w : List ℕ} {q : Legacy} (i : ℕ) {n m : ℕ} → w ≡ legacyWords q → q ≡ legacyOf i n → n ≡ m → w ≡ rowWords (inlineOf lay.Legacy16 i m)
+unfolding inlineOf rowWords
+legacy-row-is i d e f = d ∙ ap legacyWords (e ∙ ap (legacyOf i) f)
+
+pub modern-row-is : {w : List ℕ} {q : Modern} (i : ℕ) {n m : ℕ} → w ≡ modernWords q → q ≡ modernOf i n → n ≡ m → w ≡ rowWords (inlineOf lay.Modern12 i m)
+unfolding inlineOf rowWords
+modern-row-is i d e f = d ∙ ap modernWords (e ∙ ap (modernOf i) f)
 
 -- a header of zeros is not flagged
 link-zeros : (layout : Layout) → link.Own ≡ linkOf (inlineOf layout 0 0)

@@ -6,7 +6,7 @@ ghost use Rattle.hbc_bits.specs.Bits.{leAt};
 ghost use Rattle.hbc_io.specs.Outcome.{limit};
 ghost use Rattle.hbc_function_record.specs.declared.Layout.the-variants.{Legacy16, Modern12};
 ghost use Rattle.hbc_function_record.specs.Record.{sizeOf, largeOf, legacyOf, modernOf, inlineOf, legacyLarge, modernLarge};
-ghost use Rattle.hbc_function_record.specs.Record.{overflowed, legacyPlace, modernPlace, linkOf};
+ghost use Rattle.hbc_function_record.specs.Record.{flagsOf, overflowed, legacyPlace, modernPlace, linkOf};
 use crate::Layout;
 use crate::Legacy;
 use crate::Link;
@@ -60,7 +60,7 @@ pub(crate) fn modern_inline(lo: u64, hi: u64, id: u32) -> Modern
 }
 
 // The number of 8 bytes that are there, as two of 4: each of those is one load.
-fn u64_here(s: &[u8], at: usize) -> u64
+pub(crate) fn u64_here(s: &[u8], at: usize) -> u64
     requires { ⌜ at + 8 ≤ length (now s) ⌝ }
     ensures { λ r. ⌜ r ≡ leAt (now (s .entry)) at 8 ⌝ }
 {
@@ -148,6 +148,27 @@ fn overflows(flags: u32) -> bool
     ensures { λ r. ⌜ r ≡ overflowed flags ⌝ }
 {
     bits(flags as u64, 5, 1) == 1
+}
+
+// Whether the inline header at `at` is flagged.
+pub(crate) fn legacy_flagged(s: &[u8], at: usize) -> bool
+    requires { ⌜ at + sizeOf Legacy16 ≤ length (now s) ⌝ }
+    ensures { λ r. ⌜ r ≡ overflowed (flagsOf (inlineOf Legacy16 0 (leAt (now (s .entry)) at (sizeOf Legacy16)))) ⌝ }
+{
+    let lo = u64_here(s, at);
+    let hi = u64_here(s, at + 8);
+    let r = legacy_inline(lo, hi, 0);
+    overflows(r.flags)
+}
+
+pub(crate) fn modern_flagged(s: &[u8], at: usize) -> bool
+    requires { ⌜ at + sizeOf Modern12 ≤ length (now s) ⌝ }
+    ensures { λ r. ⌜ r ≡ overflowed (flagsOf (inlineOf Modern12 0 (leAt (now (s .entry)) at (sizeOf Modern12)))) ⌝ }
+{
+    let lo = u64_here(s, at);
+    let hi = u32_at(s, at + 8) as u64;
+    let r = modern_inline(lo, hi, 0);
+    overflows(r.flags)
 }
 
 // What the inline header at `at` is flagged for.

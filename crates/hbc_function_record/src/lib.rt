@@ -2,20 +2,25 @@
 // Every call is total: a header whose bytes are not all there is read as one of zeros.
 ghost use mathlib.Core.Path.{_≡_};
 ghost use Rattle.hbc_io.specs.Plain.{wordAt};
-ghost use Rattle.hbc_function_record.specs.Record.{sizeOf, largeOf, inlineOf, largeIn, linkOf};
+ghost use Rattle.hbc_function_record.specs.Record.{sizeOf, largeOf, inlineOf, largeIn, flagsOf, overflowed, linkOf};
+ghost use Rattle.hbc_function_record.specs.declared.Layout.the-variants.{Legacy16, Modern12};
 ghost use Rattle.hbc_function_record.specs.Row.{rowWords};
 ghost use Rattle.hbc_function_record.specs.Private.{isThere};
+use crate::fields::legacy_flagged;
 use crate::fields::legacy_here;
 use crate::fields::legacy_inline;
 use crate::fields::legacy_large;
 use crate::fields::legacy_link;
+use crate::fields::modern_flagged;
 use crate::fields::modern_here;
 use crate::fields::modern_inline;
 use crate::fields::modern_large;
 use crate::fields::modern_link;
+use crate::fields::u64_here;
 use crate::row::legacy_words;
 use crate::row::modern_words;
 use hbc_io::LIMIT;
+use hbc_io::u32_at;
 
 // The two forms of a function header, by the bytes that an inline one has.
 pub enum Layout {
@@ -176,6 +181,43 @@ pub fn header_link(s: &[u8], layout: Layout, at: usize) -> Link
         Layout::Legacy16 => legacy_link(s, at),
         Layout::Modern12 => modern_link(s, at),
     }
+}
+
+// Whether the inline header at `at` is flagged for a large one; not where its bytes are not all there.
+pub fn is_flagged(s: &[u8], layout: Layout, at: usize) -> bool
+    ensures { λ r. ⌜ r ≡ overflowed (flagsOf (inlineOf layout 0 (wordAt (sizeOf layout) (now (s .entry)) at))) ⌝ }
+{
+    if !there(s, at, header_size(layout)) {
+        return false;
+    }
+    match layout {
+        Layout::Legacy16 => legacy_flagged(s, at),
+        Layout::Modern12 => modern_flagged(s, at),
+    }
+}
+
+// The row of the inline header at `at`, of zeros but for layout and id where its bytes are not all there: one call for each layout, with
+// nothing of the other in it, for the loops over a table.
+pub fn legacy_row(s: &[u8], at: usize, id: u32) -> [u32; WIDTH]
+    ensures { λ w. ⌜ w ≡ rowWords (inlineOf Legacy16 id (wordAt (sizeOf Legacy16) (now (s .entry)) at)) ⌝ }
+{
+    if !there(s, at, header_size(Layout::Legacy16)) {
+        return legacy_words(legacy_inline(0, 0, id));
+    }
+    let lo = u64_here(s, at);
+    let hi = u64_here(s, at + 8);
+    legacy_words(legacy_inline(lo, hi, id))
+}
+
+pub fn modern_row(s: &[u8], at: usize, id: u32) -> [u32; WIDTH]
+    ensures { λ w. ⌜ w ≡ rowWords (inlineOf Modern12 id (wordAt (sizeOf Modern12) (now (s .entry)) at)) ⌝ }
+{
+    if !there(s, at, header_size(Layout::Modern12)) {
+        return modern_words(modern_inline(0, 0, id));
+    }
+    let lo = u64_here(s, at);
+    let hi = u32_at(s, at + 8) as u64;
+    modern_words(modern_inline(lo, hi, id))
 }
 
 // The words of a record's row: those above, then what only its layout has.

@@ -20,8 +20,8 @@ abbrev μ-loop : tie.MeasureT-loop
 loop-holds : tie.Need-loop-holds Inv-loop μ-loop
 loop-holds c = (omega arith, (omega arith, put-from _ _ _))
 
-write-row-requires : tie.Need-write-row-requires Inv-loop μ-loop
-write-row-requires c κs = let l = put-long (c .before .before .loop .inv .1 .1) in omega arith
+write-legacy-row-requires : tie.Need-write-legacy-row-requires Inv-loop μ-loop
+write-legacy-row-requires c κs = let l = put-long (c .before .before .loop .inv .1 .1) in omega arith
 
 add-id : tie.Need-add-id Inv-loop μ-loop
 add-id c = search needs
@@ -30,7 +30,7 @@ loop-less : tie.Need-loop-less Inv-loop μ-loop
 loop-less c = search needs
 
 loop-again : tie.Need-loop-again Inv-loop μ-loop
-loop-again c = (omega arith, (omega arith, put-more (c .before .before .before .before .before .loop .inv .1 .1) (le-leb _ _ (c .before .before .before .before .before .loop .inv .1 .0)) (c .before .before .write-row .ensures)))
+loop-again c = (omega arith, (omega arith, put-more (c .before .before .before .before .before .loop .inv .1 .1) (le-leb _ _ (c .before .before .before .before .before .loop .inv .1 .0)) (c .before .before .write-legacy-row .ensures)))
 
 same-length : tie.Need-same-length Inv-loop μ-loop
 same-length c = put-long (c .before .loop .inv .1 .1)
@@ -45,7 +45,7 @@ write-legacy-spec =
     Inv-loop
     μ-loop
     loop-holds
-    write-row-requires
+    write-legacy-row-requires
     add-id
     loop-less
     loop-again

@@ -1,0 +1,43 @@
+-- A function that is read from its own header alone: known so, and its row.
+use Prim.Native.Nat.{ℕ, _+_, _*_, _≤_}
+use mathlib.Core.Path.{_≡_, refl, sym, ap, _∙_, subst}
+use mathlib.Core.List.{List}
+use mathlib.Core.Bool.{Bool, true, false, not}
+use native.Mathlib.Omega.{arith}
+use lib.ListN.{length}
+use borrow.Author.Tests.{not-true}
+use Rattle.hbc_io.specs.Answer.{Answer, gives}
+use Rattle.hbc_io.specs.Plain.{wordAt}
+use Rattle.hbc_rows.specs.Rows.{putRow}
+use Rattle.hbc_function_record.specs.declared.Layout.{Layout}
+use Rattle.hbc_function_record.specs.declared.Record.{Record}
+use Rattle.hbc_function_record.specs.Record.{sizeOf, inlineOf, flagsOf, overflowed}
+use Rattle.hbc_function_record.specs.Row.{width, rowWords}
+use Rattle.hbc_function_record.proofs.Rows.{words-length}
+use Rattle.hbc_function_header.specs.Header.{headerAt, functionAt}
+use Rattle.hbc_function_header.proofs.Headers.{plain-found, is-function}
+use Rattle.hbc_function.specs.Table.{rowBy}
+use Rattle.hbc_function.specs.Private.{Plain}
+
+module _ (s : List ℕ) (layout : Layout) (start i : ℕ) where
+  pub not-known : Plain s layout start i false
+  not-known e = let z : _≡_ {A = ℕ} 0 1 = cc in absurd (omega arith)
+
+  plain-here : {b : Bool} → headerAt layout start i + sizeOf layout ≤ length s
+      → b ≡ overflowed (flagsOf (inlineOf layout 0 (wordAt (sizeOf layout) s (headerAt layout start i)))) → Plain s layout start i (not b)
+  plain-here {b} h d q = plain-found s layout (headerAt layout start i) i h (sym d ∙ not-true b q) ∙ is-function s layout start i refl
+
+  pub plain-by : {size : ℕ} {b : Bool} → size ≡ sizeOf layout → start + i * size + size ≤ length s
+      → b ≡ overflowed (flagsOf (inlineOf layout 0 (wordAt (sizeOf layout) s (start + i * size)))) → Plain s layout start i (not b)
+  plain-by {size} {b} e = subst
+      (λ (n : ℕ). start + i * n + n ≤ length s → b ≡ overflowed (flagsOf (inlineOf layout 0 (wordAt (sizeOf layout) s (start + i * n)))) → Plain s layout start i (not b))
+      (sym e) plain-here
+
+  pub row-by : {size : ℕ} {words : List ℕ} (t : List ℕ) {t′ : List ℕ} → size ≡ sizeOf layout → words ≡ rowWords (inlineOf layout i (wordAt (sizeOf layout) s (start + i * size)))
+      → gives (inlineOf layout i (wordAt (sizeOf layout) s (headerAt layout start i))) ≡ functionAt s layout start i → t′ ≡ putRow (length words) t i words
+      → t′ ≡ putRow width t i (rowBy (functionAt s layout start i))
+  row-by {size} {words} t e w g p =
+      let v : words ≡ rowWords (inlineOf layout i (wordAt (sizeOf layout) s (headerAt layout start i)))
+      = w ∙ ap (λ (n : ℕ). rowWords (inlineOf layout i (wordAt (sizeOf layout) s (start + i * n)))) e in
+      p ∙ ap (λ (n : ℕ). putRow n t i words) (ap length v ∙ words-length (inlineOf layout i (wordAt (sizeOf layout) s (headerAt layout start i))))
+      ∙ ap (putRow width t i) (v ∙ ap rowBy g)
