@@ -1,5 +1,5 @@
 -- A function that is read from its own header alone: known so, and its row.
-use Prim.Native.Nat.{ℕ, _+_, _*_, _≤_}
+use Prim.Native.Nat.{ℕ, _+_, _*_, _≤_, min, max}
 use mathlib.Core.Path.{_≡_, refl, sym, ap, _∙_, subst}
 use mathlib.Core.List.{List}
 use mathlib.Core.Bool.{Bool, true, false, not}
@@ -16,8 +16,9 @@ use Rattle.hbc_function_record.specs.Row.{width, rowWords}
 use Rattle.hbc_function_record.proofs.Rows.{words-length}
 use Rattle.hbc_function_header.specs.Header.{headerAt, functionAt}
 use Rattle.hbc_function_header.proofs.Headers.{plain-found, is-function}
+use Rattle.hbc_function_header.proofs.Meetings.{plain-apart}
 use Rattle.hbc_function.specs.Table.{rowBy}
-use Rattle.hbc_function.specs.Private.{Plain}
+use Rattle.hbc_function.specs.Private.{Plain, Apart}
 
 module _ (s : List ℕ) (layout : Layout) (start i : ℕ) where
   pub not-known : Plain s layout start i false
@@ -25,7 +26,7 @@ module _ (s : List ℕ) (layout : Layout) (start i : ℕ) where
 
   plain-here : {b : Bool} → headerAt layout start i + sizeOf layout ≤ length s
       → b ≡ overflowed (flagsOf (inlineOf layout 0 (wordAt (sizeOf layout) s (headerAt layout start i)))) → Plain s layout start i (not b)
-  plain-here {b} h d q = plain-found s layout (headerAt layout start i) i h (sym d ∙ not-true b q) ∙ is-function s layout start i refl
+  plain-here {b} h d q = plain-found s layout (headerAt layout start i) h (sym d ∙ not-true b q) i ∙ is-function s layout start i refl
 
   pub plain-by : {size : ℕ} {b : Bool} → size ≡ sizeOf layout → start + i * size + size ≤ length s
       → b ≡ overflowed (flagsOf (inlineOf layout 0 (wordAt (sizeOf layout) s (start + i * size)))) → Plain s layout start i (not b)
@@ -41,3 +42,20 @@ module _ (s : List ℕ) (layout : Layout) (start i : ℕ) where
       = w ∙ ap (λ (n : ℕ). rowWords (inlineOf layout i (wordAt (sizeOf layout) s (start + i * n)))) e in
       p ∙ ap (λ (n : ℕ). putRow n t i words) (ap length v ∙ words-length (inlineOf layout i (wordAt (sizeOf layout) s (headerAt layout start i))))
       ∙ ap (putRow width t i) (v ∙ ap rowBy g)
+
+module _ (s : List ℕ) (layout : Layout) (start low high i : ℕ) where
+  pub not-apart : Apart s layout start low high i false
+  not-apart e = let z : _≡_ {A = ℕ} 0 1 = cc in absurd (omega arith)
+
+  apart-here : {b : Bool} → headerAt layout start i + sizeOf layout ≤ length s
+      → b ≡ overflowed (flagsOf (inlineOf layout 0 (wordAt (sizeOf layout) s (headerAt layout start i))))
+      → min (headerAt layout start i + sizeOf layout) high ≤ max (headerAt layout start i) low → Apart s layout start low high i (not b)
+  apart-here {b} h d k q = plain-apart s layout start i low high h (sym d ∙ not-true b q) k
+
+  pub apart-by : {size : ℕ} {b : Bool} → size ≡ sizeOf layout → start + i * size + size ≤ length s
+      → b ≡ overflowed (flagsOf (inlineOf layout 0 (wordAt (sizeOf layout) s (start + i * size))))
+      → min (start + i * size + size) high ≤ max (start + i * size) low → Apart s layout start low high i (not b)
+  apart-by {size} {b} e = subst
+      (λ (n : ℕ). start + i * n + n ≤ length s → b ≡ overflowed (flagsOf (inlineOf layout 0 (wordAt (sizeOf layout) s (start + i * n))))
+      → min (start + i * n + n) high ≤ max (start + i * n) low → Apart s layout start low high i (not b))
+      (sym e) apart-here

@@ -8,6 +8,7 @@ use Rattle.hbc_io.specs.Plain.{wordAt}
 use Rattle.hbc_function_record.specs.declared.Layout.{Layout}
 use Rattle.hbc_function_record.specs.Record.{sizeOf, inlineOf}
 use Rattle.hbc_function_header.specs.Header.{headerAt, functionAt}
+use Rattle.hbc_function_header.specs.Meets.{meets}
 
 -- functions `from` to i - 1 are not chosen
 pub record Skipped (chosen : ℕ → Bool) (from count i : ℕ) : Type 0 where
@@ -23,3 +24,7 @@ pub record Next (chosen : ℕ → Bool) (from count r : ℕ) : Type 0 where
 -- a function that is known to be read from its own header alone
 abbrev pub Plain : List ℕ → Layout → ℕ → ℕ → Bool → Type 0
 Plain s layout start i r = r ≡ true → gives (inlineOf layout i (wordAt (sizeOf layout) s (headerAt layout start i))) ≡ functionAt s layout start i
+
+-- one that is known not to meet a span
+abbrev pub Apart : List ℕ → Layout → ℕ → ℕ → ℕ → ℕ → Bool → Type 0
+Apart s layout start low high i r = r ≡ true → meets s layout start low high i ≡ false

@@ -12,7 +12,7 @@ ghost use Rattle.hbc_function_header.specs.Header.{saysReading, functionAt};
 ghost use Rattle.hbc_function_header.specs.Meets.{meets};
 ghost use Rattle.hbc_function.specs.Table.{all, scan, rowBy, putRows, ReadFunctions};
 ghost use Rattle.hbc_function.specs.Refresh.{saysRefreshed, held, putMet, RefreshFunctions};
-ghost use Rattle.hbc_function.specs.Private.{Next, Plain};
+ghost use Rattle.hbc_function.specs.Private.{Next, Plain, Apart};
 use hbc_function_header::Meeting;
 use hbc_function_header::Reading;
 use hbc_function_header::check_function;
@@ -59,11 +59,33 @@ fn check_at(s: &[u8], layout: Layout, start: usize, id: u32) -> Reading
     check_function(s, layout, start, id)
 }
 
+// Whether function `id` is known not to meet a span: its header is in the file, apart from the span, and not flagged. So are most.
+fn is_apart(s: &[u8], layout: Layout, start: usize, low: usize, high: usize, id: u32) -> bool
+    requires { ⌜ (start ≤ length (now s)) × (length (now s) ≤ limit) ⌝ }
+    ensures { λ r. ⌜ Apart (now (s .entry)) layout start low high id r ⌝ }
+{
+    let size = header_size(layout);
+    let at = start + (id as usize) * size;
+    if s.len() < at + size {
+        return false;
+    }
+    if high <= at {
+        return !is_flagged(s, layout, at);
+    }
+    if at + size <= low {
+        return !is_flagged(s, layout, at);
+    }
+    false
+}
+
 // Whether function `id` meets a span of the file. One whose header is not there does not.
 fn meets_at(s: &[u8], layout: Layout, start: usize, low: usize, high: usize, id: u32) -> bool
     requires { ⌜ (start ≤ length (now s)) × (length (now s) ≤ limit) × (low ≤ high) × (high ≤ length (now s)) ⌝ }
     ensures { λ b. ⌜ b ≡ meets (now (s .entry)) layout start low high id ⌝ }
 {
+    if is_apart(s, layout, start, low, high, id) {
+        return false;
+    }
     match function_meets(s, layout, start, id, low, high) {
         Meeting::Met(met) => met,
         Meeting::Refused(r) => false,

@@ -124,14 +124,16 @@ module _ (s : List ℕ) (layout : Layout) (at : ℕ) where
     found-large {place = place} h f p =
         ap gives (p ∙ sym (large-there s layout place i h (where-there s (largeOf layout) (groundOf s layout at) (sym e ∙ f)))) ∙ is-found f
 
--- a function whose header is in the file and not flagged is read from it
-pub plain-found : (s : List ℕ) (layout : Layout) (at i : ℕ) → at + sizeOf layout ≤ length s
-    → overflowed (flagsOf (inlineOf layout 0 (wordAt (sizeOf layout) s at))) ≡ false → gives (inlineOf layout i (wordAt (sizeOf layout) s at)) ≡ recordAt s layout at i
-unfolding whereOf linkOf choose
-plain-found s layout at i h o =
-    let l : link.Own ≡ linkOf (inlineOf layout 0 (wordAt (sizeOf layout) s at)) = sym (rw o) in
-    let g : ground.Inline at ≡ groundOf s layout at = ground-by s layout at h l refl in
-    found-own s layout at (where-at s layout at g refl) i refl refl
+-- a function whose header is in the file and not flagged is read from that alone
+module _ (s : List ℕ) (layout : Layout) (at : ℕ) (h : at + sizeOf layout ≤ length s)
+    (o : overflowed (flagsOf (inlineOf layout 0 (wordAt (sizeOf layout) s at))) ≡ false) where
+  pub plain-ground : ground.Inline at ≡ groundOf s layout at
+  unfolding linkOf choose
+  plain-ground = let l : link.Own ≡ linkOf (inlineOf layout 0 (wordAt (sizeOf layout) s at)) = sym (rw o) in ground-by s layout at h l refl
+
+  pub plain-found : (i : ℕ) → gives (inlineOf layout i (wordAt (sizeOf layout) s at)) ≡ recordAt s layout at i
+  unfolding whereOf
+  plain-found i = found-own s layout at (where-at s layout at plain-ground refl) i refl refl
 
 -- ---- the tests of a call, whatever it answers
 

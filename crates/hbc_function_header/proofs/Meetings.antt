@@ -13,13 +13,14 @@ use Rattle.hbc_io.specs.Answer.{Answer, gives, refuses, refusedAt}
 use Rattle.hbc_io.specs.Lends.{below}
 use Rattle.hbc_io.proofs.Exits.{reached}
 use Rattle.hbc_function_record.specs.declared.Layout.{Layout}
-use Rattle.hbc_function_record.specs.Record.{sizeOf, largeOf}
+use Rattle.hbc_io.specs.Plain.{wordAt}
+use Rattle.hbc_function_record.specs.Record.{sizeOf, largeOf, inlineOf, flagsOf, overflowed}
 use Rattle.hbc_function_header.specs.declared.Ground.{Ground}
 use Rattle.hbc_function_header.specs.declared.Meeting.{Meeting}
 use Rattle.hbc_function_header.specs.declared.Meeting.the-variants as meeting
 use Rattle.hbc_function_header.specs.Header.{headerAt, groundOf, headed}
 use Rattle.hbc_function_header.specs.Meets.{overlap, groundMeets, meets, spanned, saysMeeting, functionMeets}
-use Rattle.hbc_function_header.proofs.Headers.{ground-cut, opened-long, opened-past, opened-at, headed-none, headed-at, is-ground}
+use Rattle.hbc_function_header.proofs.Headers.{plain-ground, ground-cut, opened-long, opened-past, opened-at, headed-none, headed-at, is-ground}
 
 no-gives : {A : Type 0} {r : Refusal} {a : A} → refuses r ≡ gives a → ⊥
 no-gives e = let z : _≡_ {A = ℕ} 0 1 = cc in omega arith
@@ -51,6 +52,13 @@ module _ (s : List ℕ) (layout : Layout) (start i low high : ℕ) where
       → groundMeets own large low high g ≡ meets s layout start low high i
   unfolding meets
   meets-by e f p q = rw (f, p, q, is-ground s layout start i e)
+
+  -- not flagged, and apart from the span
+  pub plain-apart : headerAt layout start i + sizeOf layout ≤ length s
+      → overflowed (flagsOf (inlineOf layout 0 (wordAt (sizeOf layout) s (headerAt layout start i)))) ≡ false
+      → min (headerAt layout start i + sizeOf layout) high ≤ max (headerAt layout start i) low → meets s layout start low high i ≡ false
+  unfolding groundMeets
+  plain-apart h o k = sym (apart (headerAt layout start i) (sizeOf layout) low high k ∙ meets-by refl (plain-ground s layout (headerAt layout start i) h o) refl refl)
 
   pub meets-long : limit < length s → refusedAt 1 0 ≡ functionMeets s layout start i low high
   unfolding functionMeets
