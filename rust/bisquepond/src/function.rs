@@ -638,7 +638,7 @@ impl FunctionTable {
     }
 
     /// The bytes whose edit is not yet taken in, since every refresh from it on was refused: the least span that holds all
-    /// of them. The rows that have a part in it may be out of date. None where the table is what a fresh read would give.
+    /// of them. The rows that have a part in it may be out of date. None where no edit is left to be taken in.
     ///
     /// ```
     /// # use bisquepond::{Layout, function};
