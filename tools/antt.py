@@ -36,7 +36,9 @@ def part(tree, crate, folder):
 
 
 def is_program(tree, crate):
-    return f'crates/{crate}/src/main.rt' in tree
+    """a program, or a library that is a part of one and has its name before its own: it promises nothing"""
+    words = crate.split('_')
+    return any(f"crates/{'_'.join(words[:n])}/src/main.rt" in tree for n in range(1, len(words) + 1))
 
 
 def is_claims(crate):

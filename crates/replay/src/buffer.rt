@@ -1,17 +1,17 @@
 // Literals.
-use crate::cursor::same_float;
-use crate::records::Asked;
-use crate::records::FILL;
-use crate::records::FILL_LONG;
-use crate::records::are;
-use crate::records::bytes_are;
-use crate::records::field;
-use crate::records::leaves;
-use crate::records::lent;
-use crate::records::lent_longs;
-use crate::records::truth;
-use crate::records::words_are;
 use hbc_buffer_object::Object;
+use replay_cursor::same_float;
+use replay_records::Asked;
+use replay_records::FILL;
+use replay_records::FILL_LONG;
+use replay_records::are;
+use replay_records::bytes_are;
+use replay_records::field;
+use replay_records::leaves;
+use replay_records::lent;
+use replay_records::lent_longs;
+use replay_records::truth;
+use replay_records::words_are;
 
 // Asked: cursor, tag, a float's bits. The answer: code, cursor, kind, word, 1 if the float is the one asked.
 pub(crate) fn read_literal(record: &[u8], n: Asked) -> bool {

@@ -1,13 +1,13 @@
 // Function tables. Asked: start, both ends of the span, words lent; layout, count or number. The answer: code, 0.
-use crate::records::Asked;
-use crate::records::FILL;
-use crate::records::are;
-use crate::records::field;
-use crate::records::leaves;
-use crate::records::lent;
 use hbc_function_header::Function;
 use hbc_function_record::Layout;
 use hbc_function_record::WIDTH;
+use replay_records::Asked;
+use replay_records::FILL;
+use replay_records::are;
+use replay_records::field;
+use replay_records::leaves;
+use replay_records::lent;
 
 pub(crate) fn read_functions(record: &[u8], n: Asked) -> bool {
     let mut table = [FILL; 256];

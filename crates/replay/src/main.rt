@@ -1,15 +1,13 @@
 // Replays recorded answers of the published Rust, and DWARF's worked examples, from standard input (docs/RECORDS.md has the form of a record): makes
 // each call, and says for each group how many records there are and how many were answered otherwise.
 mod buffer;
-mod cursor;
 mod debug;
 mod function;
 mod parsing;
-mod records;
 mod table;
 
-use crate::records::Asked;
 use libc::STDOUT_FILENO;
+use replay_records::Asked;
 
 struct Tally {
     all: u64,
@@ -45,7 +43,7 @@ fn judge(record: &[u8], n: Asked) -> bool {
         27 => parsing::trailing_sections(record, n),
         28 => debug::read_debug(record, n),
         29 => function::function_ground(record, n),
-        _ => cursor::judge(record, n),
+        _ => replay_cursor::judge(record, n),
     }
 }
 
@@ -53,11 +51,11 @@ fn turn(record: &[u8], t: Tally) -> Tally {
     if record.len() == 0 {
         return t;
     }
-    let n = records::head(record);
+    let n = replay_records::head(record);
     if n.call == 0 {
-        return report(records::field(record, 1), t);
+        return report(replay_records::field(record, 1), t);
     }
-    let differs = records::truth(!judge(record, n));
+    let differs = replay_records::truth(!judge(record, n));
     Tally {
         all: std::num::wrapping_add_u64(t.all, 1),
         bad: std::num::wrapping_add_u64(t.bad, differs),
@@ -70,8 +68,8 @@ fn replay(s: &[u8]) {
     let mut at: usize = 0;
     let mut left = s.len();
     while 0 < left {
-        t = turn(records::bytes(s, at), t);
-        at = records::past(s, at);
+        t = turn(replay_records::bytes(s, at), t);
+        at = replay_records::past(s, at);
         left -= 1;
     }
 }
