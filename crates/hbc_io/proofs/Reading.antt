@@ -3,7 +3,7 @@ use mathlib.Core.Path.{_≡_, refl, sym, ap, _∙_}
 use mathlib.Core.Bool.{Bool, true, false, cond}
 use Prim.Native.Nat.{ℕ}
 use native.Mathlib.Omega.{arith}
-use Rattle.hbc_io.specs.Outcome.{Outcome, got, refused, valued, andThen}
+use Rattle.hbc_io.specs.Outcome.{Outcome, got, refused, cursorAt, refusalAt, valued, andThen}
 use Rattle.hbc_io.specs.declared.Cursor.{Cursor}
 use Rattle.hbc_io.specs.declared.Refusal.{Refusal}
 
@@ -14,6 +14,11 @@ found of e f = sym e ∙ ap of f
 -- nothing is both got and refused
 pub not-both : {A : Type 0} {o : Outcome A} {v : A} {n m : Cursor} {r : Refusal} → o ≡ got v n → o ≡ refused r m → ⊥
 not-both e f = let z : _≡_ {A = ℕ} 0 1 = cc in omega arith
+
+-- one number, one place of the refusal, one cursor: one refused answer
+pub refused-so : {A : Type 0} {r q : Refusal} {m c : Cursor} → r .number ≡ q .number → r .place ≡ q .place → m .at ≡ c .at → _≡_ {A = Outcome A} (refused r m) (refused q c)
+refused-so {r = r} {q = q} {m = m} e f g =
+    ap (λ (k : ℕ). refused (refusalAt k (r .place)) m) e ∙ ap (λ (k : ℕ). refused (refusalAt (q .number) k) m) f ∙ ap (λ (k : ℕ). refused q (cursorAt k)) g
 
 -- what was got, and where, is one thing
 pub same-got : {A : Type 0} (v u : A) (c d : Cursor) → got v c ≡ got u d → (v ≡ u) × (c ≡ d)

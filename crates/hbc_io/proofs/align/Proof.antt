@@ -1,3 +1,4 @@
+use mathlib.Core.Path.{_≡_}
 use borrow.Author.Tests.{le-ltb, lt-ltb, eq-eqb, ne-eqb}
 use native.Mathlib.Omega.{arith}
 use native.Mathlib.Nat.{mod-lt}
@@ -36,7 +37,10 @@ rem-over c = search needs
 
 returns-4 : tie.Need-returns-4
 unfolding alignTo
-returns-4 c = simp (le-ltb _ _ (c .before .before .before .if1 .left), ne-eqb _ _ (c .before .before .if2 .left), le-ltb _ _ (c .before .if3 .left), eq-eqb _ _ (c .if4 .taken), le-ltb _ _ (c .before .if3 .left))
+returns-4 c =
+    let a = c .before .before .before .before .before .args in
+    let over : a .c .at % a .alignment ≡ 0 = omega arith in
+    simp (le-ltb _ _ (c .before .before .before .if1 .left), ne-eqb _ _ (c .before .before .if2 .left), le-ltb _ _ (c .before .if3 .left), eq-eqb _ _ over, le-ltb _ _ (c .before .if3 .left))
 
 sub-if5 : tie.Need-sub-if5
 sub-if5 c = search needs

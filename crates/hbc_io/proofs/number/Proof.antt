@@ -1,5 +1,7 @@
 use borrow.Author.Tests.{le-ltb, lt-ltb}
+use native.Mathlib.Omega.{arith}
 use Rattle.hbc_io.specs.Plain.{plainAt}
+use Rattle.hbc_io.proofs.Reading.{refused-so}
 use borrow.Author.Needs.{needs}
 use Rattle.hbc_io.proofs.number.Statement.{statement}
 use Rattle.hbc_io.proofs.number.Tie as tie
@@ -26,7 +28,7 @@ refuse-requires-3 c κs = search needs
 
 returns-3 : tie.Need-returns-3
 unfolding plainAt
-returns-3 c = simp (c .refuse3 .ensures, le-ltb _ _ (c .before .before .before .if1 .left), le-ltb _ _ (c .before .before .if2 .left), lt-ltb _ _ (c .before .if3 .taken))
+returns-3 c = simp (c .refuse3 .ensures, le-ltb _ _ (c .before .before .before .if1 .left), le-ltb _ _ (c .before .before .if2 .left), lt-ltb _ _ (c .before .if3 .taken)) (refused-so (omega arith) (omega arith) (omega arith))
 
 gather-requires : tie.Need-gather-requires
 gather-requires c κs = search needs
