@@ -22,13 +22,16 @@ row-word : (w : ℕ) (t : List ℕ) (k c : ℕ) → c < w → getD (rowAt w t k)
 unfolding rowAt entryAt
 row-word w t k c h = getD-take w (drop (k * w) t) c 0 h ∙ getD-drop (k * w) t c 0
 
+same-span : {a b m n : ℕ} → a ≡ b → m ≡ n → spanOf a m ≡ spanOf b n
+same-span e f = rw (e, f)
+
 module _ (t : List ℕ) (k : ℕ) where
   pub span-valid : {invalid start bytes : ℕ} → k < rows stringWidth t → invalid ≡ entryAt t (k * stringWidth + 2) → invalid ≡ 0
       → start ≡ entryAt t (k * stringWidth + 0) → bytes ≡ entryAt t (k * stringWidth + 1) → spanOf start bytes ≡ spanAt t k
   unfolding spanAt
   span-valid h p q e f =
       let w : ((c : ℕ) → c < 4 → getD (rowAt stringWidth t k) c 0 ≡ entryAt t (k * stringWidth + c)) = row-word stringWidth t k in
-      rw (lt-ltb _ _ h, w 2 (omega arith), test-eq p q, w 0 (omega arith), w 1 (omega arith), e, f)
+      rw (lt-ltb _ _ h, w 2 (omega arith), test-eq p q, w 0 (omega arith), w 1 (omega arith)) (same-span e f)
 
   pub span-invalid : {invalid : ℕ} → k < rows stringWidth t → invalid ≡ entryAt t (k * stringWidth + 2) → (invalid ≡ 0 → ⊥) → spanOf 0 0 ≡ spanAt t k
   unfolding spanAt

@@ -6,6 +6,7 @@ use native.Mathlib.Nat.{add-zero, zero-add}
 use borrow.Author.Tests.{lt-ltb, le-ltb}
 use denote.Ref.{now}
 use lib.ListN.{length, take, drop}
+use Rattle.hbc_io.proofs.Reading.{refused-so}
 use Rattle.hbc_io_leb.specs.Leb.{going, groups, lebBytes}
 use Rattle.hbc_io_leb.proofs.Lebs.{part-long, going-off, going-end, turn-going, turn-groups, leb-long, leb-cut, leb-whole, leb-one}
 use borrow.Author.Needs.{needs}
@@ -133,6 +134,7 @@ returns-6 : tie.Need-returns-6 Inv-loop μ-loop
 returns-6 c =
     let a = c .before .before .before .before .before .before .before .before .before .before .args in
     rw (c .refuse4 .ensures, leb-long (now (a .s)) (a .c) (c .before .before .before .before .before .before .before .before .if1 .left) (c .before .before .before .before .before .before .before .if2 .left) (omega arith))
+    (refused-so (omega arith) (omega arith) (omega arith))
 
 pub read-groups-spec : {M : Type 1} → statement M
 read-groups-spec =

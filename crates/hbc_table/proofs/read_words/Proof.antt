@@ -1,5 +1,6 @@
 use mathlib.Core.Path.{refl}
 use Rattle.hbc_io.proofs.Exits.{stop, past, given}
+use Rattle.hbc_io.proofs.Reading.{refused-so}
 use Rattle.hbc_table.specs.Table.{wordsAt}
 use Rattle.hbc_table.proofs.Laws.{div-fits}
 use native.Mathlib.Omega.{arith}
@@ -45,7 +46,7 @@ refuse-requires-4 c κs = search needs
 
 returns-4 : tie.Need-returns-4
 unfolding wordsAt
-returns-4 c = past _ _ _ _ (omega arith) (past _ _ _ _ (omega arith) (past _ _ _ _ (omega arith) (stop _ _ _ _ (omega arith) refl (rw (c .refuse4 .ensures)))))
+returns-4 c = past _ _ _ _ (omega arith) (past _ _ _ _ (omega arith) (past _ _ _ _ (omega arith) (stop _ _ _ _ (omega arith) refl (rw (c .refuse4 .ensures) (refused-so (omega arith) (omega arith) (omega arith))))))
 
 fill-requires : tie.Need-fill-requires
 fill-requires c κs = search needs
