@@ -2,7 +2,7 @@
 //! out.
 
 use bisquepond::debug::{self, CalleeRow, LentTables, NameRow, ScopeRow, TextRow};
-use bisquepond::function::{self, FunctionRow, Rest};
+use bisquepond::function::{self, FunctionRow, Ground, Rest};
 use bisquepond::io::ByteReader;
 use bisquepond::literal::{self, Literal, Objects};
 use bisquepond::parsing::{self, HandlerRow, SectionCounts};
@@ -390,6 +390,20 @@ fn refused_8_no_pair_is_left() {
     );
     let mut rows = [StringRow::default(); 1];
     assert_eq!(strings.decode_into(1, &mut rows).unwrap()[0].byte_len(), 1);
+}
+
+/// A header that is not flagged has no large one, whatever its offset says; a flagged one has it where its fields say.
+#[test]
+fn ground_of_both_kinds() {
+    for layout in [Layout::Legacy16, Layout::Modern12] {
+        let mut file = flagged(layout, 64, 40, 0);
+        let ground = |file: &[u8], id| function::function_ground(file, layout, 0, id);
+        let second = layout.header_size();
+        assert_eq!(ground(&file, 0), Ok(Ground { header: 0, large: Some(40) }));
+        assert_eq!(ground(&file, 1), Ok(Ground { header: second, large: None }));
+        file[second - 1] = 0;
+        assert_eq!(ground(&file, 0), Ok(Ground { header: 0, large: None }));
+    }
 }
 
 /// Whoever asks what a function is read from, or whether it meets a span, is told where that is no question.
