@@ -5,7 +5,7 @@ ghost use Rattle.hbc_bits.specs.Bits.{field};
 ghost use Rattle.hbc_io.specs.Outcome.{cursorAt, left, valued, twos};
 ghost use Rattle.hbc_io.specs.Plain.{plainAt, seekTo, alignTo, bytesAt};
 ghost use Rattle.hbc_io_leb.specs.Leb.{lebBytes, unsignedOf, signedOf};
-ghost use Rattle.hbc_io_strings.specs.Text.{zeroEnded, prefixed};
+ghost use Rattle.hbc_io_strings.specs.Strings.{zeroEnded, prefixed};
 ghost use Rattle.hbc_c_code.specs.Told.{Moves, Reads};
 ghost use Rattle.hbc_c_io.specs.Io.{ReadsSpan};
 

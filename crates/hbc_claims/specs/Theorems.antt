@@ -20,7 +20,7 @@ use denote.Ref.{RefT, now}
 use denote.Triple.Both.{Both}
 use Rattle.hbc_bits.specs.Bits.{leAt}
 use Rattle.hbc_io.specs.Outcome.{got, refused, valued, cursorAt, limit}
-use Rattle.hbc_io.specs.Answer.{Answer, gives, refuses, asked, told}
+use Rattle.hbc_io.specs.Answer.{gives, asked, told}
 use Rattle.hbc_io.specs.Plain.{plainAt, bytesAt, seekTo, alignTo}
 use Rattle.hbc_io.specs.declared.Cursor.{Cursor}
 use Rattle.hbc_io.specs.declared.Refusal.{Refusal}
@@ -33,7 +33,7 @@ use Rattle.hbc_io_leb.specs.declared.Sleb.{Sleb}
 use Rattle.hbc_io_leb.specs.declared.ReadUleb.{ReadUleb}
 use Rattle.hbc_io_leb.specs.Leb.{lebBytes, dwarfUnsigned, dwarfSigned, unsignedOf, signedOf}
 use Rattle.hbc_io_leb.specs.Signed.{slebAt, low32}
-use Rattle.hbc_io_strings.specs.Text.{zeroEnded, prefixed}
+use Rattle.hbc_io_strings.specs.Strings.{zeroEnded, prefixed}
 use Rattle.hbc_reader.specs.declared.ByteReader.{ByteReader}
 use Rattle.hbc_reader.proofs.ByteReader.new as of-new
 use Rattle.hbc_reader.proofs.ByteReader.position as of-position
@@ -46,7 +46,6 @@ use Rattle.hbc_reader.proofs.ByteReader.part as of-part
 use Rattle.hbc_function_record.specs.declared.Layout.{Layout}
 use Rattle.hbc_function_record.specs.declared.Legacy.{Legacy}
 use Rattle.hbc_function_record.specs.declared.Modern.{Modern}
-use Rattle.hbc_function_record.specs.declared.Record.{Record}
 use Rattle.hbc_function_record.specs.Record.{sizeOf, largeOf, largeAt, legacyPlace, modernPlace}
 use Rattle.hbc_function_record.specs.Row.{width}
 use Rattle.hbc_function_header.specs.declared.Reading.{Reading}

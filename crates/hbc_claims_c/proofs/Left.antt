@@ -21,7 +21,7 @@ use Rattle.hbc_io.specs.declared.Moved.{Moved}
 use Rattle.hbc_io.specs.declared.Moved.the-variants as moved
 use Rattle.hbc_io.specs.declared.Span.{Span}
 use Rattle.hbc_io_leb.specs.Leb.{lebBytes}
-use Rattle.hbc_io_strings.specs.Text.{zeroEnded, prefixed}
+use Rattle.hbc_io_strings.specs.Strings.{zeroEnded, prefixed}
 use Rattle.hbc_rows.specs.Rows.{rows}
 use Rattle.hbc_function_record.specs.declared.Layout.{Layout}
 use Rattle.hbc_function_header.specs.declared.Ground.{Ground}

@@ -2,7 +2,7 @@
 use mathlib.Core.Path.{refl}
 use Rattle.hbc_io.specs.Plain.{bytesAt}
 use Rattle.hbc_io_leb.specs.Leb.{lebBytes}
-use Rattle.hbc_io_strings.specs.Text.{prefixed}
+use Rattle.hbc_io_strings.specs.Strings.{prefixed}
 use Rattle.hbc_rows.specs.Until.{until, after}
 use Rattle.hbc_io_leb.specs.Signed.{slebAt, upTo, under, low32}
 use Rattle.hbc_debug_parts.specs.Parts.{partsOf, isEmpty}

@@ -4,7 +4,7 @@ use mathlib.Core.List.{List}
 use Prim.Native.Nat.{ℕ, _+_}
 use lib.ListN.{length}
 use Rattle.hbc_io.specs.Outcome.{cursorAt}
-use Rattle.hbc_io_strings.specs.Text.{prefixed}
+use Rattle.hbc_io_strings.specs.Strings.{prefixed}
 use Rattle.hbc_rows.specs.Until.{until}
 use Rattle.hbc_debug_strings.specs.Strings.{stringsOf}
 use Rattle.hbc_debug_scopes.specs.Scopes.{scopeAt, scopesOf}

@@ -11,7 +11,7 @@ use borrow.Author.Tests.{ltb-true, leb-true, eqb-false, lt-ltb, le-ltb}
 use Rattle.hbc_io.specs.Answer.{Answer, gives, refuses, refusedAt, andThen}
 use Rattle.hbc_io.specs.Lends.{choose}
 use Rattle.hbc_io.specs.Plain.{partOf, spanOf}
-use Rattle.hbc_io.proofs.Exits.{reached}
+use Rattle.hbc_io.proofs.Exits.{reached, not-given}
 use Rattle.hbc_rows.specs.Rows.{rows, rowAt}
 use Rattle.hbc_rows.proofs.RowsAt.{rows-length, rows-apart, row-put, row-fits}
 use Rattle.hbc_table_strings.specs.declared.row.StringRow.{StringRow}
@@ -19,7 +19,6 @@ use Rattle.hbc_table_strings.specs.declared.Decoded.the-variants.{Rows}
 use Rattle.hbc_table_strings.specs.Entries.{lacksPair}
 use Rattle.hbc_table_strings.specs.Row.{stringWords, stringWidth, valid, invalid, rowFor, rowWith, rowOf}
 use Rattle.hbc_table_strings.specs.Strings.{scan, lesser, decodeAnswer, wordsOf, decodedRows, DecodeStrings}
-use Rattle.hbc_table_strings.proofs.Alone.{not-given}
 use Rattle.hbc_table_bytes.specs.StringBytes.{spanAt, stringBytes}
 use Rattle.hbc_claims_law.specs.Terms.{Behind}
 use Rattle.hbc_claims_table.specs.Within.{Within}

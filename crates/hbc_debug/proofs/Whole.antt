@@ -12,7 +12,7 @@ use Rattle.hbc_io.specs.Outcome.{refusalAt, cursorAt}
 use Rattle.hbc_io.specs.Answer.{gives, refuses}
 use Rattle.hbc_io.specs.declared.Refusal.{Refusal}
 use Rattle.hbc_io.proofs.Exits.{refused, given, take, leave}
-use Rattle.hbc_io_strings.specs.Text.{prefixed}
+use Rattle.hbc_io_strings.specs.Strings.{prefixed}
 use Rattle.hbc_rows.proofs.Untils.{until-most}
 use Rattle.hbc_debug_strings.specs.Strings.{stringsOf, stringWords}
 use Rattle.hbc_debug_scopes.specs.Scopes.{scopesOf, nameWords}

@@ -12,7 +12,7 @@ use Rattle.hbc_io.proofs.Reading.{then-got}
 use Rattle.hbc_io.proofs.Plains.{bytes-got}
 use Rattle.hbc_io_leb.specs.Leb.{lebBytes}
 use Rattle.hbc_io_leb.specs.Answers.{ulebOf}
-use Rattle.hbc_io_strings.specs.Text.{prefixed}
+use Rattle.hbc_io_strings.specs.Strings.{prefixed}
 
 pub inside : (s : List ℕ) (c : Cursor) (p : Span) (n : Cursor) → prefixed s c ≡ got p n → p .start + p .len ≤ length s
 unfolding prefixed

@@ -6,7 +6,7 @@ use Rattle.hbc_io.specs.Outcome.{cursorAt}
 use Rattle.hbc_io.specs.Answer.{Answer, gives, refuses}
 use Rattle.hbc_io.specs.Lends.{Lends}
 use Rattle.hbc_io.specs.declared.Span.{Span}
-use Rattle.hbc_io_strings.specs.Text.{prefixed}
+use Rattle.hbc_io_strings.specs.Strings.{prefixed}
 use Rattle.hbc_debug_parts.specs.declared.InFile.{InFile}
 use Rattle.hbc_debug_parts.specs.declared.Written.{Written}
 use Rattle.hbc_debug_parts.specs.Lists.{saysWritten, inLimit, withRoom, inFront}

@@ -3,6 +3,7 @@ use Prim.Native.Nat.{ℕ, _≤_, _<_}
 use mathlib.Core.Path.{_≡_, refl, ap, sym, _∙_}
 use mathlib.Core.Bool.{Bool, true, false, cond}
 use lib.Dec.{ltb}
+use native.Mathlib.Omega.{arith}
 use borrow.Author.Tests.{lt-ltb, le-ltb, ltb-false}
 use Rattle.hbc_io.specs.declared.Refusal.{Refusal}
 use Rattle.hbc_io.specs.Answer.{Answer, gives, refuses}
@@ -72,6 +73,10 @@ module _ {O A R W : Type 0} {told : O → Answer A} {of : R → O} {o : O} {new 
   pub alone : {r q : R} {after later : W} → ((x y : R) → of x ≡ of y → x ≡ y) → Tells told of o new before r after → Tells told of o new before q later
       → (r ≡ q) × (after ≡ later)
   alone {r} {q} one v w = (one r q (v .says ∙ sym (w .says)), words v ∙ sym (words w))
+
+-- nothing is both given and refused
+pub not-given : {A : Type 0} {x : Refusal} {v : A} → refuses x ≡ gives v → ⊥
+not-given e = let z : _≡_ {A = ℕ} 0 1 = cc in omega arith
 
 -- ---- what an answer that came past its tests says of them
 

@@ -18,7 +18,7 @@ use Rattle.hbc_io_leb.specs.Leb.{lebBytes}
 use Rattle.hbc_io_leb.specs.Answers.{ulebOf}
 use Rattle.hbc_io_leb.specs.declared.Uleb.{Uleb}
 use Rattle.hbc_io_leb.proofs.Lebs.{leb-got}
-use Rattle.hbc_io_strings.specs.Text.{before0, zeroEnded, prefixed}
+use Rattle.hbc_io_strings.specs.Strings.{before0, zeroEnded, prefixed}
 
 pub text-on : (s : List ℕ) (at i : ℕ) → at ≤ i → i < length s → (getD s i 0 ≡ 0 → ⊥) → before0 (drop at s) ≡ (i - at) + before0 (drop i s)
     → before0 (drop at s) ≡ (i + 1 - at) + before0 (drop (i + 1) s)

@@ -1,7 +1,7 @@
 // Strings as spans of the input, after io.rs: ended by a zero byte, or with their length in front.
 ghost use mathlib.Core.Path.{_≡_};
 ghost use Rattle.hbc_io.specs.Answers.{saysSpan};
-ghost use Rattle.hbc_io_strings.specs.Text.{zeroEnded, prefixed};
+ghost use Rattle.hbc_io_strings.specs.Strings.{zeroEnded, prefixed};
 use hbc_io::Cursor;
 use hbc_io::LIMIT;
 use hbc_io::ReadSpan;

@@ -1,7 +1,7 @@
 use borrow.Author.Needs.{needs}
 use native.Mathlib.Omega.{arith}
 use lib.ListN.{length}
-use Rattle.hbc_io_strings.specs.Text.{prefixed}
+use Rattle.hbc_io_strings.specs.Strings.{prefixed}
 use Rattle.hbc_io.specs.Answers.{saysSpan}
 use Rattle.hbc_io.proofs.Reading.{found}
 use Rattle.hbc_rows.proofs.Passes.{Counted, counted-first, counted-on, counted-stop, counted-done}

@@ -6,7 +6,7 @@ use lib.ListN.{length}
 use lib.Seq.{sets}
 use Rattle.hbc_io.specs.Answers.{saysSpan}
 use Rattle.hbc_io.proofs.Reading.{found}
-use Rattle.hbc_io_strings.specs.Text.{prefixed}
+use Rattle.hbc_io_strings.specs.Strings.{prefixed}
 use Rattle.hbc_rows.proofs.Passes.{Written, written-first, written-on, written-stop, written-done}
 use Rattle.hbc_debug_parts.specs.declared.InFile.{InFile}
 use Rattle.hbc_debug_strings.specs.Strings.{stringsOf, stringWidth, stringRow}

@@ -4,7 +4,8 @@ use Prim.Native.Nat.{_+_, _-_, _≤_, _<_}
 use mathlib.Core.Path.{_≡_}
 use denote.Ref.{now}
 use lib.ListN.{length, drop}
-use Rattle.hbc_io_strings.specs.Text.{before0, zeroEnded}
+use Rattle.hbc_io.proofs.Reading.{refused-so}
+use Rattle.hbc_io_strings.specs.Strings.{before0, zeroEnded}
 use Rattle.hbc_io_strings.proofs.Texts.{text-on, text-off, text-end, zero-found, zero-none}
 use borrow.Author.Needs.{needs}
 use Rattle.hbc_io_strings.proofs.read_cstring.Statement.{statement}
@@ -73,6 +74,7 @@ returns-4 c =
     let i = c .before .before .loop .i in
     let e : before0 (drop (a .c .at) (now (a .s))) ≡ i - a .c .at = omega (arith, text-end (now (a .s)) i (c .before .loop-test .left)) in
     rw (c .refuse3 .ensures, zero-none (now (a .s)) (a .c) (c .before .before .before .before .if1 .left) (c .before .before .before .if2 .left) (i - a .c .at) e (omega arith))
+    (refused-so (omega arith) (omega arith) (omega arith))
 
 pub read-cstring-spec : {M : Type 1} → statement M
 read-cstring-spec =
