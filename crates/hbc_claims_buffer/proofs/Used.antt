@@ -8,14 +8,13 @@ use borrow.Author.Tests.{leb-false, eqb-false, ne-eqb}
 use lib.Dec.{leb, eqb}
 use lib.ListN.{length}
 use Rattle.hbc_io.specs.Outcome.{Outcome, got, refused, valued, cursorAt, limit}
-use Rattle.hbc_io.specs.Answer.{Answer, gives, refuses}
+use Rattle.hbc_io.specs.Answer.{Answer, gives}
 use Rattle.hbc_io.specs.Lends.{choose}
 use Rattle.hbc_io.specs.Plain.{plainAt}
 use Rattle.hbc_io.specs.declared.Cursor.{Cursor}
-use Rattle.hbc_io.specs.declared.Refusal.{Refusal}
 use Rattle.hbc_io.proofs.Reading.{then-got, valued-got, not-both}
 use Rattle.hbc_io.proofs.Plains.{plain-got}
-use Rattle.hbc_io.proofs.Exits.{reached}
+use Rattle.hbc_io.proofs.Exits.{reached, not-given}
 use Rattle.hbc_buffer_literal.specs.Literal.{widthOf}
 use Rattle.hbc_buffer.specs.Series.{Run, runOf, tagAt, headAt, runAt, step, placed, after, usedOf, seriesAnswer}
 use Rattle.hbc_buffer.proofs.Tags.{tag-on}
@@ -78,37 +77,34 @@ after-reach (suc k) s c u n h e =
     let a = after-reach k s c (p .0) (p .1) h (p .2) in
     reach-on a (step-reach s (p .0) (p .1) u n (a .within) (placed-got k (step s (p .0) (p .1)) u n (p .3)))
 
-pub not-used : {r : Refusal} {n : ℕ} → refuses r ≡ gives n → ⊥
-not-used e = let z : _≡_ {A = ℕ} 0 1 = cc in omega arith
-
 pub past-none : (b : Bool) (x : Answer ℕ) (n : ℕ) → b ≡ false → cond b (gives 0) x ≡ gives n → x ≡ gives n
 past-none b x n h e = ap (λ (c : Bool). cond c (gives 0) x) (sym h) ∙ e
 
 used-reach : (s : List ℕ) (offset n : ℕ) (o : Outcome Run) → usedOf offset o ≡ gives n
     → ((u : Run) (m : Cursor) → o ≡ got u m → Reach s (cursorAt offset) m) → offset + n ≤ length s
 used-reach s offset n (got u m) e f = let r = f u m refl in let k : m .at - offset ≡ n = cc in omega (arith, r .up, r .within)
-used-reach s offset n (refused r m) e f = absurd (not-used e)
+used-reach s offset n (refused r m) e f = absurd (not-given e)
 
 module _ (s : List ℕ) (offset count kinds payloads n : ℕ) where
   pub used-within : UsedWithin s offset count kinds payloads n
   unfolding seriesAnswer choose
   used-within some e =
-      let a = reached limit (length s) _ _ not-used e in
+      let a = reached limit (length s) _ _ not-given e in
       let b = past-none (eqb count 0) _ n (ne-eqb _ _ some) (a .1) in
-      let c = past not-used (leb (length s) offset) b in
-      let d = reached kinds count _ _ not-used (c .1) in
-      let f = reached payloads count _ _ not-used (d .1) in
+      let c = past not-given (leb (length s) offset) b in
+      let d = reached kinds count _ _ not-given (c .1) in
+      let f = reached payloads count _ _ not-given (d .1) in
       used-reach s offset n (after count s (cursorAt offset)) (f .1)
       (λ u m. after-reach count s (cursorAt offset) u m (omega (arith, leb-false (length s) offset (c .0))))
 
   used-short : seriesAnswer s offset count kinds payloads ≡ gives n → length s ≤ limit
   unfolding seriesAnswer
-  used-short e = reached limit (length s) _ _ not-used e .0
+  used-short e = reached limit (length s) _ _ not-given e .0
 
   pub used-none : eqb count 0 ≡ true → seriesAnswer s offset count kinds payloads ≡ gives n → 0 ≡ n
   unfolding seriesAnswer choose
   used-none q e =
-      let a = reached limit (length s) _ _ not-used e .1 in
+      let a = reached limit (length s) _ _ not-given e .1 in
       let b : gives 0 ≡ gives n = rw q at a in
       cc
 

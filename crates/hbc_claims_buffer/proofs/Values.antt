@@ -13,7 +13,7 @@ use Rattle.hbc_io.specs.Lends.{choose}
 use Rattle.hbc_io.specs.Plain.{plainAt}
 use Rattle.hbc_io.specs.declared.Cursor.{Cursor}
 use Rattle.hbc_io.proofs.Reading.{then-got, valued-got}
-use Rattle.hbc_io.proofs.Exits.{reached}
+use Rattle.hbc_io.proofs.Exits.{reached, not-given}
 use Rattle.hbc_rows.specs.Rows.{entryAt, filled}
 use Rattle.hbc_rows.proofs.Laws.{filled-length}
 use Rattle.hbc_rows.proofs.RowsAt.{filled-at, filled-past}
@@ -23,7 +23,7 @@ use Rattle.hbc_buffer.specs.Series.{Run, runOf, runAt, step, placed, after, val
 use Rattle.hbc_buffer.proofs.Exits.{apart}
 use Rattle.hbc_claims_law.proofs.Tests.{past}
 use Rattle.hbc_claims_law.specs.Terms.{Behind, Value}
-use Rattle.hbc_claims_buffer.proofs.Used.{after-reach, placed-got, not-used, past-none, used-none}
+use Rattle.hbc_claims_buffer.proofs.Used.{after-reach, placed-got, past-none, used-none}
 
 -- ---- each value before the end of a series that was read
 
@@ -81,17 +81,17 @@ record Got (s : List ℕ) (offset count kinds payloads n : ℕ) : Type 0 where
 
 used-got : (offset n : ℕ) (o : Outcome Run) → usedOf offset o ≡ gives n → (u : Run) × (m : Cursor) × (o ≡ got u m) × (m .at - offset ≡ n)
 used-got offset n (got u m) e = (u, m, refl, cc)
-used-got offset n (refused r m) e = absurd (not-used e)
+used-got offset n (refused r m) e = absurd (not-given e)
 
 accepted : (s : List ℕ) (offset count kinds payloads n : ℕ) → (count ≡ 0 → ⊥) → seriesAnswer s offset count kinds payloads ≡ gives n
     → Got s offset count kinds payloads n
 unfolding seriesAnswer choose
 accepted s offset count kinds payloads n some e =
-    let a = reached limit (length s) _ _ not-used e in
+    let a = reached limit (length s) _ _ not-given e in
     let b = past-none (eqb count 0) _ n (ne-eqb _ _ some) (a .1) in
-    let c = past not-used (leb (length s) offset) b in
-    let d = reached kinds count _ _ not-used (c .1) in
-    let f = reached payloads count _ _ not-used (d .1) in
+    let c = past not-given (leb (length s) offset) b in
+    let d = reached kinds count _ _ not-given (c .1) in
+    let f = reached payloads count _ _ not-given (d .1) in
     let g = used-got offset n (after count s (cursorAt offset)) (f .1) in
     record {
       kinds-room = d .0;

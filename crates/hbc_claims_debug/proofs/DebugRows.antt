@@ -11,8 +11,8 @@ use lib.Seq.{sets, length-sets, getD-append-add}
 use lib.Dec.{leb}
 use Rattle.hbc_io.specs.Answer.{Answer, gives, refuses, refusedAt, andThen}
 use Rattle.hbc_io.specs.Lends.{choose}
-use Rattle.hbc_io.specs.declared.Refusal.{Refusal}
 use Rattle.hbc_io.specs.declared.Span.{Span}
+use Rattle.hbc_io.proofs.Exits.{not-given}
 use Rattle.hbc_io_leb.specs.declared.Sleb.{Sleb}
 use Rattle.hbc_io_leb.specs.Signed.{low32}
 use Rattle.hbc_rows.specs.Rows.{rowAt, rows}
@@ -150,9 +150,6 @@ name-in n all xs ys x vs ws v t e f room =
 
 -- ---- what an accepted answer says
 
-never : {r : Refusal} {k : Counts} → refuses r ≡ gives k → ⊥
-never e = let z : _≡_ {A = ℕ} 0 1 = cc in omega arith
-
 both : (a b : Bool) → cond a b false ≡ true → (a ≡ true) × (b ≡ true)
 both true b e = (refl, e)
 both false b e = absurd (let z : _≡_ {A = ℕ} 0 1 = cc in omega arith)
@@ -182,13 +179,13 @@ record Given (b : Contents) (t : Tables) (k : Counts) : Type 0 where
 
 given-by : (b : Contents) (t : Tables) (k : Counts) (f : Bool) → fits (countsOf b) (roomIn t) ≡ f → cond f (gives (countsOf b)) (refusedAt 4 0) ≡ gives k → Given b t k
 given-by b t k true e g = record { fit = fits-all (countsOf b) (roomIn t) e; is = cc }
-given-by b t k false e g = absurd (never g)
+given-by b t k false e g = absurd (not-given g)
 
 given-in : (file : List ℕ) (t : Tables) (k : Counts) (a : Answer Parts) → andThen a (λ p. countsAnswer (contentsIn file p) t) ≡ gives k
     → Given (contentsIn file (partsGiven a)) t k
 unfolding choose
 given-in file t k (gives p) e = given-by (contentsIn file p) t k (fits (countsOf (contentsIn file p)) (roomIn t)) refl e
-given-in file t k (refuses r) e = absurd (never e)
+given-in file t k (refuses r) e = absurd (not-given e)
 
 module _ (file : List ℕ) (offset : ℕ) (t : Tables) (k : Counts) (t′ : Tables) (v : ReadDebug file offset t (debugged.Read k) t′) where
   abbrev b : Contents

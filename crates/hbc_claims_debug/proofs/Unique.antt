@@ -1,11 +1,7 @@
 -- Each call leaves one outcome: its promise fixes the answer and every lent word.
 use mathlib.Core.Path.{_≡_, refl, sym}
-use Prim.Native.Nat.{ℕ}
 use Rattle.hbc_io.proofs.Alone.{onePart}
-use native.Mathlib.Omega.{arith}
-use Rattle.hbc_io.specs.Answer.{gives, refuses}
-use Rattle.hbc_io.specs.declared.Refusal.{Refusal}
-use Rattle.hbc_io.proofs.Exits.{alone}
+use Rattle.hbc_io.proofs.Exits.{alone, not-given}
 use Rattle.hbc_debug_parts.specs.declared.Written.{Written}
 use Rattle.hbc_debug_parts.specs.declared.Written.the-variants as wrote
 use Rattle.hbc_debug_parts.specs.Lists.{saysWritten}
@@ -23,33 +19,30 @@ use Rattle.hbc_debug.proofs.Alone.{oneDebugged}
 use Rattle.hbc_claims_law.proofs.Law.{same}
 use Rattle.hbc_claims_debug.specs.Unique.{Unique}
 
-no-gives : {A : Type 0} {x : Refusal} {a : A} → refuses x ≡ gives a → ⊥
-no-gives e = let z : _≡_ {A = ℕ} 0 1 = cc in omega arith
-
 -- an answer is known by what it says
 one-written : (a b : Written) → saysWritten a ≡ saysWritten b → a ≡ b
 one-written wrote.Rows wrote.Rows e = refl
 one-written (wrote.Refused r) (wrote.Refused q) e = cc
-one-written wrote.Rows (wrote.Refused q) e = absurd (no-gives (sym e))
-one-written (wrote.Refused r) wrote.Rows e = absurd (no-gives e)
+one-written wrote.Rows (wrote.Refused q) e = absurd (not-given (sym e))
+one-written (wrote.Refused r) wrote.Rows e = absurd (not-given e)
 
 one-strings : (a b : StringsCounted) → saysStringsCounted a ≡ saysStringsCounted b → a ≡ b
 one-strings (strings.Counts n) (strings.Counts m) e = cc
 one-strings (strings.Refused r) (strings.Refused q) e = cc
-one-strings (strings.Counts n) (strings.Refused q) e = absurd (no-gives (sym e))
-one-strings (strings.Refused r) (strings.Counts m) e = absurd (no-gives e)
+one-strings (strings.Counts n) (strings.Refused q) e = absurd (not-given (sym e))
+one-strings (strings.Refused r) (strings.Counts m) e = absurd (not-given e)
 
 one-scopes : (a b : ScopesCounted) → saysScopesCounted a ≡ saysScopesCounted b → a ≡ b
 one-scopes (scopes.Counts n) (scopes.Counts m) e = cc
 one-scopes (scopes.Refused r) (scopes.Refused q) e = cc
-one-scopes (scopes.Counts n) (scopes.Refused q) e = absurd (no-gives (sym e))
-one-scopes (scopes.Refused r) (scopes.Counts m) e = absurd (no-gives e)
+one-scopes (scopes.Counts n) (scopes.Refused q) e = absurd (not-given (sym e))
+one-scopes (scopes.Refused r) (scopes.Counts m) e = absurd (not-given e)
 
 one-callees : (a b : CalleesCounted) → saysCalleesCounted a ≡ saysCalleesCounted b → a ≡ b
 one-callees (callees.Counts n) (callees.Counts m) e = cc
 one-callees (callees.Refused r) (callees.Refused q) e = cc
-one-callees (callees.Counts n) (callees.Refused q) e = absurd (no-gives (sym e))
-one-callees (callees.Refused r) (callees.Counts m) e = absurd (no-gives e)
+one-callees (callees.Counts n) (callees.Refused q) e = absurd (not-given (sym e))
+one-callees (callees.Refused r) (callees.Counts m) e = absurd (not-given e)
 
 pub unique : Unique
 unique = record {

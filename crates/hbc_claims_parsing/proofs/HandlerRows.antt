@@ -7,9 +7,8 @@ use native.Mathlib.Omega.{arith}
 use lib.ListN.{length, getD}
 use lib.Dec.{ltb, eqb}
 use borrow.Author.Tests.{eqb-true, eqb-false, ltb-true, ltb-false}
-use Rattle.hbc_io.specs.Answer.{gives, refuses}
-use Rattle.hbc_io.specs.declared.Refusal.{Refusal}
-use Rattle.hbc_io.proofs.Exits.{reached}
+use Rattle.hbc_io.specs.Answer.{gives}
+use Rattle.hbc_io.proofs.Exits.{reached, not-given}
 use Rattle.hbc_rows.specs.Rows.{entryAt, rowAt, rows, putRows}
 use Rattle.hbc_rows.proofs.RowsAt as at
 use Rattle.hbc_function_record.specs.Row.{legacyWords, modernWords}
@@ -133,9 +132,6 @@ module _ (s functions : List ℕ) where
 
 -- ---- from the call's promise
 
-never : {r : Refusal} {n : ℕ} → refuses r ≡ gives n → ⊥
-never e = let z : _≡_ {A = ℕ} 0 1 = cc in omega arith
-
 record Accepted (s functions : List ℕ) (count room n : ℕ) : Type 0 where
   all : n ≡ total s functions count
   holds : total s functions count ≤ room
@@ -143,9 +139,9 @@ record Accepted (s functions : List ℕ) (count room n : ℕ) : Type 0 where
 accept : (s functions : List ℕ) (count room n : ℕ) → handlersAnswer s functions count room ≡ gives n → Accepted s functions count room n
 unfolding handlersAnswer
 accept s functions count room n e =
-    let p = reached _ _ _ _ never e in
-    let q = reached _ _ _ _ never (p .1) in
-    let r = reached _ _ _ _ never (q .1) in
+    let p = reached _ _ _ _ not-given e in
+    let q = reached _ _ _ _ not-given (p .1) in
+    let r = reached _ _ _ _ not-given (q .1) in
     record { all = cc (r .1); holds = r .0 }
 
 module _ (s functions : List ℕ) (count : ℕ) (t : List ℕ) (n : ℕ) (t′ : List ℕ) (v : ReadHandlers s functions count t (l.Rows n) t′) where

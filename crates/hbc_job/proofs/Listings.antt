@@ -8,7 +8,7 @@ use lib.Seq.{take-all}
 use Rattle.hbc_io.specs.declared.Refusal.{Refusal}
 use Rattle.hbc_io.specs.Answer.{Answer, gives, refuses, andThen}
 use Rattle.hbc_io.specs.Lends.{below}
-use Rattle.hbc_io.proofs.Exits.{reached}
+use Rattle.hbc_io.proofs.Exits.{reached, not-given}
 use Rattle.hbc_function_record.specs.Row.{width}
 use Rattle.hbc_function_header.specs.declared.Reading.{Reading}
 use Rattle.hbc_function_header.specs.declared.Reading.the-variants as reading
@@ -19,15 +19,12 @@ use Rattle.hbc_job.specs.declared.Job.{Job}
 use Rattle.hbc_job.specs.declared.Job.the-variants as job
 use Rattle.hbc_job.specs.Job.{FILE, LISTED, saysJob, jobOf, listedOf, listing}
 
-no-gives : {A : Type 0} {x : Refusal} {a : A} → refuses x ≡ gives a → ⊥
-no-gives e = let z : _≡_ {A = ℕ} 0 1 = cc in omega arith
-
 -- a job that is one has a file
 pub has-file : (s : List ℕ) {r : Job} {p : Parts} → saysJob r ≡ jobOf s → r ≡ job.Of p → FILE ≤ length s
 unfolding jobOf
 has-file s e f =
-    let a = reached _ _ _ _ no-gives (sym e ∙ ap saysJob f) in
-    reached _ _ _ _ no-gives (a .1) .0
+    let a = reached _ _ _ _ not-given (sym e ∙ ap saysJob f) in
+    reached _ _ _ _ not-given (a .1) .0
 
 -- the table that was read, with LISTED rows
 module _ (file : List ℕ) (p : Parts) (t : List ℕ) {r : Reading} {t′ : List ℕ} (v : ReadFunctions file (p .layout) (p .start) (p .count) t r t′) (n : length t ≡ LISTED * width) where

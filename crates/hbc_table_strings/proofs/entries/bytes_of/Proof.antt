@@ -13,7 +13,7 @@ mul-result c = search needs
 
 returns : tie.Need-returns
 unfolding bytesOf
-returns c = (rw (test-eq (c .before .utf16 .ensures .0) (c .if1 .taken)), omega arith)
+returns c = (rw (test-eq (c .before .utf16 .ensures .0) (c .if1 .taken)) (omega arith), omega arith)
 
 returns-2 : tie.Need-returns-2
 unfolding bytesOf
