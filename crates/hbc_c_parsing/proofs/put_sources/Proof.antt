@@ -13,8 +13,8 @@ use Rattle.hbc_c_parsing.proofs.put_section.Reads as put-section-reads
 use Rattle.hbc_rows.proofs.put_row.Reads as put-row-reads
 
 -- the last word of the row of absent sources says so
-marked : {t t′ : List ℕ} {k a : ℕ} → t′ ≡ putRow sectionWidth t k (0 ∷ 0 ∷ 0 ∷ a ∷ []) → a ≡ 1 → t′ ≡ putRow sectionWidth t k (0 ∷ 0 ∷ 0 ∷ 1 ∷ [])
-marked {t = t} {k = k} e f = e ∙ ap (λ (m : ℕ). putRow sectionWidth t k (0 ∷ 0 ∷ 0 ∷ m ∷ [])) f
+marked : (t : List ℕ) (k a : ℕ) {t′ : List ℕ} → t′ ≡ putRow sectionWidth t k (0 ∷ 0 ∷ 0 ∷ a ∷ []) → a ≡ 1 → t′ ≡ putRow sectionWidth t k (0 ∷ 0 ∷ 0 ∷ 1 ∷ [])
+marked t k a e f = e ∙ ap (λ (m : ℕ). putRow sectionWidth t k (0 ∷ 0 ∷ 0 ∷ m ∷ [])) f
 
 -- src/lib.rt:49:24
 enum-known-s : tie.Need-enum-known-s
@@ -50,7 +50,7 @@ same-length-2 c = search needs
 
 -- src/lib.rt:44:1
 returns-2 : tie.Need-returns-2
-returns-2 c = rw (c .before .before .before .before .before .enum-told .given .1) (marked (c .before .before .put-row .ensures) (omega arith))
+returns-2 c = rw (c .before .before .before .before .before .enum-told .given .1) (marked _ _ _ (c .before .before .put-row .ensures) (omega arith))
 
 pub put-sources-spec : {M : Type 1} → statement M
 put-sources-spec =
