@@ -1,7 +1,12 @@
-use mathlib.Core.Path.{sym, _∙_}
+use Prim.Native.Nat.{_-_}
+use mathlib.Core.Path.{_≡_, sym, _∙_}
+use mathlib.Core.Bool.{false}
+use native.Mathlib.Omega.{arith}
+use lib.ListN.{length}
+use denote.Ref.{now}
 use borrow.Author.Tests.{lt-ltb, le-ltb, eq-eqb, ne-eqb, not-true, not-false}
 use Rattle.hbc_io.specs.Lends.{below}
-use Rattle.hbc_job.specs.Job.{jobOf}
+use Rattle.hbc_job.specs.Job.{FILE, tagged, jobOf}
 use borrow.Author.Needs.{needs}
 use Rattle.hbc_job.proofs.parse_job.Statement.{statement}
 use Rattle.hbc_job.proofs.parse_job.Tie as tie
@@ -61,7 +66,10 @@ malformed-requires-6 c κs = search needs
 
 returns-6 : tie.Need-returns-6
 unfolding jobOf below
-returns-6 c = rw (le-ltb _ _ (c .before .before .before .before .before .before .before .before .before .before .if1 .left), le-ltb _ _ (c .before .before .before .before .before .before .before .before .before .if2 .left), sym (c .before .before .before .before .before .before .before .before .is-tagged .ensures) ∙ not-false _ (c .before .before .before .before .before .before .before .if3 .left), sym (c .before .before .before .before .before .before .is-tagged2 .ensures) ∙ not-false _ (c .before .before .before .before .before .if4 .left), sym (c .before .before .before .before .is-tagged3 .ensures) ∙ not-false _ (c .before .before .before .if5 .left), sym (c .before .before .is-tagged4 .ensures) ∙ not-true _ (c .before .if6 .taken)) (c .malformed6 .ensures)
+returns-6 c =
+    let s = now (c .before .before .before .before .before .before .before .before .before .before .before .before .args .s) in
+    let trails : tagged s 18 4 (length s - FILE) ≡ false = sym (c .before .before .is-tagged4 .ensures) ∙ not-true _ (c .before .if6 .taken) in
+    rw (le-ltb _ _ (c .before .before .before .before .before .before .before .before .before .before .if1 .left), le-ltb _ _ (c .before .before .before .before .before .before .before .before .before .if2 .left), sym (c .before .before .before .before .before .before .before .before .is-tagged .ensures) ∙ not-false _ (c .before .before .before .before .before .before .before .if3 .left), sym (c .before .before .before .before .before .before .is-tagged2 .ensures) ∙ not-false _ (c .before .before .before .before .before .if4 .left), sym (c .before .before .before .before .is-tagged3 .ensures) ∙ not-false _ (c .before .before .before .if5 .left), trails) (c .malformed6 .ensures)
 
 u32-at-requires : tie.Need-u32-at-requires
 u32-at-requires c κs = search needs
@@ -78,7 +86,9 @@ returns-7 c = rw (le-ltb _ _ (c .before .before .before .before .before .before 
 
 returns-8 : tie.Need-returns-8
 unfolding jobOf below
-returns-8 c = rw (le-ltb _ _ (c .before .before .before .before .before .before .before .before .before .before .before .before .before .before .if1 .left), le-ltb _ _ (c .before .before .before .before .before .before .before .before .before .before .before .before .before .if2 .left), sym (c .before .before .before .before .before .before .before .before .before .before .before .before .is-tagged .ensures) ∙ not-false _ (c .before .before .before .before .before .before .before .before .before .before .before .if3 .left), sym (c .before .before .before .before .before .before .before .before .before .before .is-tagged2 .ensures) ∙ not-false _ (c .before .before .before .before .before .before .before .before .before .if4 .left), sym (c .before .before .before .before .before .before .before .before .is-tagged3 .ensures) ∙ not-false _ (c .before .before .before .before .before .before .before .if5 .left), sym (c .before .before .before .before .before .before .is-tagged4 .ensures) ∙ not-false _ (c .before .before .before .before .before .if6 .left), ← c .before .before .before .before .u32-at .ensures, ← c .before .before .before .u32-at2 .ensures, ← c .before .before .u8-at .ensures, ne-eqb _ _ (c .before .if7 .left), eq-eqb _ _ (c .if8 .taken))
+returns-8 c =
+    let modern : c .before .before .u8-at .result ≡ 1 = omega arith in
+    rw (le-ltb _ _ (c .before .before .before .before .before .before .before .before .before .before .before .before .before .before .if1 .left), le-ltb _ _ (c .before .before .before .before .before .before .before .before .before .before .before .before .before .if2 .left), sym (c .before .before .before .before .before .before .before .before .before .before .before .before .is-tagged .ensures) ∙ not-false _ (c .before .before .before .before .before .before .before .before .before .before .before .if3 .left), sym (c .before .before .before .before .before .before .before .before .before .before .is-tagged2 .ensures) ∙ not-false _ (c .before .before .before .before .before .before .before .before .before .if4 .left), sym (c .before .before .before .before .before .before .before .before .is-tagged3 .ensures) ∙ not-false _ (c .before .before .before .before .before .before .before .if5 .left), sym (c .before .before .before .before .before .before .is-tagged4 .ensures) ∙ not-false _ (c .before .before .before .before .before .if6 .left), ← c .before .before .before .before .u32-at .ensures, ← c .before .before .before .u32-at2 .ensures, ← c .before .before .u8-at .ensures, ne-eqb _ _ (c .before .if7 .left), eq-eqb _ _ modern)
 
 malformed-requires-7 : tie.Need-malformed-requires-7
 malformed-requires-7 c κs = search needs
