@@ -17,7 +17,7 @@ use Rattle.hbc_io_leb.specs.Signed.{slebAt, bitsOf, heldOf, upTo, under, natura
 use Rattle.hbc_io_leb.specs.declared.Held.{Held}
 use Rattle.hbc_io_leb.proofs.Signed.{bits-pos, bits-neg, bits-up-to, bits-low, natural-bits, natural-le}
 use Rattle.hbc_io_leb.proofs.Helds.{Bits, bits-got, bits-refused}
-use Rattle.hbc_rows.specs.Until.{until, flat, Ended}
+use Rattle.hbc_rows.specs.Until.{until, after, flat, Ended}
 use Rattle.hbc_io_leb.proofs.Moves.{sleb-moves}
 use Rattle.hbc_rows.proofs.Far.{far}
 use lib.Seq.{sets}
@@ -26,7 +26,7 @@ use Rattle.hbc_io_leb.proofs.Lebs.{leb-got}
 use Rattle.hbc_io_leb.specs.Leb.{lebBytes}
 use Rattle.hbc_io_leb.specs.Answers.{slebOf}
 use Rattle.hbc_io_leb.specs.declared.Sleb.{Sleb}
-use Rattle.hbc_debug_scopes.specs.Scopes.{Front, frontAt, wordBelow, absent, Scope, scopeAt, scopeWidth, scopeRow, nameCount, nameRow, nameCell}
+use Rattle.hbc_debug_scopes.specs.Scopes.{Front, frontAt, wordBelow, absent, parentWord, Scope, scopeAt, scopeWidth, scopeRow, nameCount, nameRow, nameCell}
 use Rattle.hbc_debug_scopes.specs.Private.{headOf, wordBits}
 use Rattle.hbc_debug_scopes.specs.declared.Head.{Head}
 
@@ -61,7 +61,7 @@ module _ (s : List ℕ) (c : Cursor) where
             let g = bits-got s c b₁ c₁ e₁ in let h = bits-got s c₁ b₂ c₂ e₂ in let k = bits-got s c₂ b₃ c₃ e₃ in
             let u : upTo (length s - c₃ .at) (k .z .value) ≡ true
             = sym (bits-up-to (length s - c₃ .at) (k .z .value) (k .fits) (omega arith)) ∙ le-leb (bitsOf (k .z .value)) (length s - c₃ .at) (omega (arith, k .bits)) in
-            let w : p ≡ wordBelow absent (g .z .value) = q ∙ ap (wordBits absent) (g .bits) ∙ word-bits absent (g .z .value) (g .fits) (omega arith) in
+            let w : p ≡ parentWord (g .z .value) = q ∙ ap (wordBits absent) (g .bits) ∙ word-bits absent (g .z .value) (g .fits) (omega arith) in
             let f : b₂ .bits % 4294967296 ≡ low32 (h .z .value) = ap (λ (x : ℕ). x % 4294967296) (h .bits) ∙ bits-low (h .z .value) in
             let n : b₃ .bits ≡ natural (k .z .value) = k .bits ∙ sym (natural-bits (length s - c₃ .at) (k .z .value) (k .fits) u) in
             rw (g .is, h .is, k .is, u) (cc)
@@ -131,15 +131,17 @@ turn s c v c₁ n m e g =
     let w = valued-got headOf (frontAt s c) v c₁ e in
     let h : Front = w .0 in
     let f : frontAt s c ≡ got h c₁ = w .1 in
-    let p : v .parent ≡ wordBelow absent (h .parent) = ap (λ (y : Head). y .parent) (w .2) in
+    let p : v .parent ≡ parentWord (h .parent) = ap (λ (y : Head). y .parent) (w .2) in
     let q : v .flags ≡ low32 (h .flags) = ap (λ (y : Head). y .flags) (w .2) in
     let k : v .count ≡ h .count = ap (λ (y : Head). y .count) (w .2) in
     let i = front-inside s c h c₁ f in
     let z = far (length s) (slebAt s) (sleb-moves s) (v .count) c₁ (i .room) in
     let y = ap (λ (t : Cursor). t .at) (g .place) in
+    let x : Scope = record { offset = c .at; front = h; names = until (slebAt s) (h .count) c₁ } in
+    let kept : scopeAt s c ≡ got x (after (slebAt s) (h .count) c₁) = then-1 (frontAt s c) _ h c₁ f in
     record {
-      x = record { offset = c .at; front = h; names = until (slebAt s) (h .count) c₁ };
-      is = then-1 (frontAt s c) _ h c₁ f ∙ rw (sym k, sym (g .place));
+      x = x;
+      is = kept ∙ rw (sym k, sym (g .place));
       row = λ first. let d : n ≡ length (until (slebAt s) (h .count) c₁) = g .count ∙ ap (λ (j : ℕ). length (until (slebAt s) j c₁)) k in cc;
       count = g .count ∙ ap (λ (j : ℕ). length (until (slebAt s) j c₁)) k;
       names = λ j. ap (λ (i : ℕ). flat (nameCell j) (until (slebAt s) i c₁)) k;
