@@ -1,5 +1,6 @@
 /* What include/hbc.h says besides its prototypes, as a caller meets it: names, what a refused call leaves, what a refused
- * refresh asks for, what stands for no large header. C99 and C++. Prints nothing; at the first test that fails its line, and then ends with status 1. */
+ * refresh asks for, what stands for no large header. C99 and C++. Prints nothing; at the first test that fails its line,
+ * and then ends with status 1. */
 #include <stdio.h>
 #include <string.h>
 
@@ -108,13 +109,14 @@ static int ground(void)
     uint8_t file[32] = {0};
     size_t header = 77, large = 88;
     file[16] = 8;
-    CHECK(is(hbc_function_ground(file, 32, HBC_LAYOUT_LEGACY16, 0, 2, &header, &large), "CUT") && header == 77 && large == 88);
+    CHECK(is(hbc_function_ground(file, 32, HBC_LAYOUT_LEGACY16, 0, 2, &header, &large), "CUT"));
+    CHECK(header == 77 && large == 88);
     CHECK(hbc_function_ground(file, 32, HBC_LAYOUT_LEGACY16, 0, 1, &header, &large) == 0 && header == 16);
     CHECK(large == HBC_NO_PLACE && (uint64_t)large == UINT64_MAX);
     file[31] = HBC_FLAG_OVERFLOWED;
     CHECK(hbc_function_ground(file, 32, HBC_LAYOUT_LEGACY16, 0, 1, &header, &large) == 0 && header == 16 && large == 8);
     file[24] = 1; /* info_offset, the place from bit 16 up */
-    CHECK(hbc_function_ground(file, 32, HBC_LAYOUT_LEGACY16, 0, 1, &header, &large) == 0 && header == 16 && large == 65544);
+    CHECK(hbc_function_ground(file, 32, HBC_LAYOUT_LEGACY16, 0, 1, &header, &large) == 0 && large == 65544);
     CHECK(hbc_function_ground(file, 32, HBC_LAYOUT_LEGACY16, 0, 0, &header, &large) == 0 && header == 0);
     CHECK(large == HBC_NO_PLACE);
     return 0;
