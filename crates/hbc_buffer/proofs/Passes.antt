@@ -15,24 +15,10 @@ use Rattle.hbc_rows.specs.Rows.{filled}
 use Rattle.hbc_buffer_literal.specs.Literal.{widthOf, literalOf, kindOf}
 use Rattle.hbc_buffer_literal.proofs.Laws.{width-most, kind-any}
 use Rattle.hbc_buffer.specs.Series.{Run, runOf, tagAt, headAt, after, usedOf, valueAt, kindAt, payloadAt}
-use Rattle.hbc_buffer.specs.Private.{byteAt, lengthOf, filledFrom, kindsFrom, payloadsFrom, Whole}
+use Rattle.hbc_buffer.specs.Private.{byteAt, lengthOf, filledFrom, kindsFrom, payloadsFrom, Whole, Passed, Known, Empties, Goes, Writes}
 use Rattle.hbc_buffer.proofs.Fills.{from-filled}
 use Rattle.hbc_buffer.proofs.Tags.{On, tag-on, tag-there, tag-cut, short-tag, short-length, none-width, head-here, head-skip, head-no}
 use Rattle.hbc_buffer.proofs.Runs.{Ready, ready-head, after-none, refused-stays, run-past, run-cut, run-value}
-
--- `done` of `count` values are read, the run is spent, and only empty tags stand between its end and `at`
-pub record Passed (s : List ℕ) (from count done at : ℕ) : Type 0 where
-  pub run : Run
-  pub back : Cursor
-  pub is : after done s (cursorAt from) ≡ got run back
-  pub spent : done < count → run .left ≡ 0
-  pub tags : ℕ
-  pub enough : length s ≤ tags + at
-  pub skip : headAt (length s) s back ≡ headAt tags s (cursorAt at)
-  pub here : (done < count → ⊥) → back ≡ cursorAt at
-  pub below : done ≤ count
-  pub up : from ≤ at
-  pub within : at ≤ length s
 
 pub passed-first : (s : List ℕ) (from count : ℕ) → from ≤ length s → Passed s from count 0 from
 unfolding after
@@ -118,7 +104,7 @@ module _ {s : List ℕ} {from count done at : ℕ} (g : Passed s from count done
     passed-cut h = rw (cut-after h)
 
     -- an empty tag
-    skipped : l ≡ 0 → Passed s from count done f
+    pub skipped : l ≡ 0 → Passed s from count done f
     skipped z =
         let x = on .from in
         record {
@@ -208,12 +194,6 @@ passed-all g e = rw (← e, g .is, g .here (λ z. omega (arith, e, z)))
 
 -- ---- the same tag again
 
--- what is kept of the last run: its tag byte, and the length and width that are that byte's own if it has one byte and values are left
-pub record Known (count done last size wide : ℕ) : Type 0 where
-  pub is : done < count → last < 128 → (size ≡ field 0 4 last) × (wide ≡ widthOf (field 4 3 last))
-  pub small : size < 4294967296
-  pub narrow : wide ≤ 8
-
 pub known-first : (count : ℕ) → Known count 0 256 0 0
 known-first count = record { is = λ some low. absurd (omega (arith, low)); small = omega arith; narrow = omega arith }
 
@@ -225,8 +205,8 @@ known-next b y {l} {n} {w} some most len least wide =
       narrow = rw wide (width-most (field 4 3 b));
     }
 
-pub known-on : {count done last size wide : ℕ} (m : ℕ) → Known count done last size wide → done < count → Known count (done + m) last size wide
-known-on m k some = record { is = λ more low. k .is some low; small = k .small; narrow = k .narrow }
+pub known-on : {count done last size wide : ℕ} (d : ℕ) → Known count done last size wide → done < count → Known count d last size wide
+known-on d k some = record { is = λ more low. k .is some low; small = k .small; narrow = k .narrow }
 
 module _ {s : List ℕ} {from count done at : ℕ} (g : Passed s from count done at) (some : done < count) (short : length s ≤ limit)
     {last size wide : ℕ} (k : Known count done last size wide) {b : ℕ} (first : b ≡ byteAt s at) (spare : ℕ)

@@ -1,7 +1,7 @@
 // Literal series, after buffer.rs: tags, runs of values, and two lent tables that take kind and payload.
 // Checked first, run by run; written after.
 ghost use mathlib.Core.Path.{_≡_};
-ghost use Prim.Native.Nat.{_+_, _*_, _≤_, _<_, _^_, min};
+ghost use Prim.Native.Nat.{_+_, _-_, _*_, _≤_, _<_, _^_, min};
 ghost use lib.ListN.{length};
 ghost use mathlib.Core.Bool.{true};
 ghost use Rattle.hbc_bits.specs.Bits.{leAt, field};
@@ -9,7 +9,7 @@ ghost use Rattle.hbc_io.specs.Outcome.{cursorAt, limit};
 ghost use Rattle.hbc_rows.specs.Rows.{filled};
 ghost use Rattle.hbc_buffer_literal.specs.Literal.{widthOf, literalOf, kindOf};
 ghost use Rattle.hbc_buffer.specs.Series.{after, kindAt, payloadAt, usedOf, saysSeries, ReadSeries};
-ghost use Rattle.hbc_buffer.specs.Private.{byteAt, lengthOf, filledFrom, kindsFrom, payloadsFrom, Whole};
+ghost use Rattle.hbc_buffer.specs.Private.{byteAt, lengthOf, filledFrom, kindsFrom, payloadsFrom, Whole, Known, Empties, Goes, Writes};
 use hbc_bits::bits;
 use hbc_buffer_literal::kind;
 use hbc_buffer_literal::read_payload;
@@ -89,6 +89,66 @@ fn again(
     false
 }
 
+// Whether a tag byte has no values, whatever its kind: bits 0 to 3 and bit 7 are 0.
+fn empty(b: u64) -> bool
+    ensures { λ r. ⌜ (r ≡ true → (b < 128) × (field 0 4 b ≡ 0)) ⌝ }
+{
+    if bits(b, 0, 4) == 0 {
+        if b < 128 {
+            return true;
+        }
+    }
+    false
+}
+
+// Past the empty tags of one byte that stand from `at` on, of any kinds: one loop, so that none of them is made out.
+fn past_empty(s: &[u8], at: usize) -> usize
+    requires { ⌜ (length (now s) ≤ limit) × (at ≤ length (now s)) ⌝ }
+    ensures { λ r. ⌜ Empties (now (s .entry)) at r ⌝ }
+{
+    let mut p = at;
+    while p < s.len() {
+        if empty(byte(s, p)) {
+            p += 1;
+        } else {
+            return p;
+        }
+    }
+    p
+}
+
+// Where a pass stands: a place in the file, and how many values are read.
+pub struct Place {
+    pub at: usize,
+    pub done: usize,
+}
+
+// Past the runs of this tag byte, one after another: their length and width are known.
+fn past_same(
+    s: &[u8],
+    from: usize,
+    first: usize,
+    count: usize,
+    b: u64,
+    size: usize,
+    wide: usize,
+) -> Place
+    requires { ⌜ (length (now s) ≤ limit) × (from ≤ length (now s)) × (first ≤ count) × (count < 2 ^ 32) × Known count first b size wide ⌝ }
+    ensures { λ r. ⌜ Goes (now (s .entry)) count first from (r .done) (r .at) ⌝ }
+{
+    let mut at = from;
+    let mut done = first;
+    while done < count {
+        if again(byte(s, at), b, size, wide, count - done, s.len() - at, 0) {
+            at += 1 + size * wide;
+            done += size;
+        } else {
+            return Place { at, done };
+        }
+    }
+    Place { at, done }
+}
+
 // Reads `count` values run by run and writes nothing. A run takes one test, however long it is; tag byte, length and width of the last one are kept.
 fn check(s: &[u8], from: usize, count: usize) -> Series
     requires { ⌜ (length (now s) ≤ limit) × (from ≤ length (now s)) × (count < 2 ^ 32) ⌝ }
@@ -100,6 +160,7 @@ fn check(s: &[u8], from: usize, count: usize) -> Series
     let mut size: usize = 0;
     let mut wide: usize = 0;
     while done < count {
+        at = past_empty(s, at);
         let b = byte(s, at);
         if b < 48 {
             // no bytes follow such a tag, whatever its length
@@ -109,8 +170,9 @@ fn check(s: &[u8], from: usize, count: usize) -> Series
             at += 1;
             done += least(bits(b, 0, 4) as usize, count - done);
         } else if again(b, last, size, wide, count - done, s.len() - at, 0) {
-            at += 1 + size * wide;
-            done += size;
+            let p = past_same(s, at + (1 + size * wide), done + size, count, b, size, wide);
+            at = p.at;
+            done = p.done;
         } else {
             let first = at + 1 + (bits(b, 7, 1) as usize);
             if s.len() < first {
@@ -264,6 +326,78 @@ fn fill(
     fill_run(s, at, tag, payloads, first, n);
 }
 
+// Both words of the values of the runs of this tag byte, one after another.
+fn write_same(
+    s: &[u8],
+    from: usize,
+    first: usize,
+    count: usize,
+    b: u64,
+    size: usize,
+    wide: usize,
+    k: u32,
+    kinds: &mut [u32],
+    payloads: &mut [u64],
+) -> Place
+    requires { ⌜ (length (now s) ≤ limit) × (from ≤ length (now s)) × (first ≤ count) × (count < 2 ^ 32) × Known count first b size wide
+        × (k ≡ kindOf (literalOf (field 4 3 b) 0)) × (count ≤ length (now kinds)) × (count ≤ length (now payloads)) ⌝ }
+    ensures { λ r. ⌜ Goes (now (s .entry)) count first from (r .done) (r .at)
+        × Writes kindAt (now (s .entry)) count first from (r .done) (now (kinds .entry)) (now (kinds .exit))
+        × Writes payloadAt (now (s .entry)) count first from (r .done) (now (payloads .entry)) (now (payloads .exit)) ⌝ }
+{
+    let mut at = from;
+    let mut done = first;
+    while done < count {
+        if again(byte(s, at), b, size, wide, count - done, s.len() - at, 8) {
+            fill_short(s, at + 1, wide, k, kinds, payloads, done, size);
+            at += 1 + size * wide;
+            done += size;
+        } else {
+            return Place { at, done };
+        }
+    }
+    Place { at, done }
+}
+
+// A run that is the last one again, and those after it that are it too. Runs of one value have a loop in which nothing is asked of the length.
+fn repeat(
+    s: &[u8],
+    at: usize,
+    done: usize,
+    count: usize,
+    b: u64,
+    size: usize,
+    wide: usize,
+    kinds: &mut [u32],
+    payloads: &mut [u64],
+) -> Place
+    requires { ⌜ (length (now s) ≤ limit) × (done < count) × (count < 2 ^ 32) × Known count done b size wide
+        × (count ≤ length (now kinds)) × (count ≤ length (now payloads))
+        × (b ≡ byteAt (now s) at) × (b < 128) × (size ≤ count - done) × (8 + (1 + size * wide) ≤ length (now s) - at) ⌝ }
+    ensures { λ r. ⌜ (at < r .at) × Goes (now (s .entry)) count done at (r .done) (r .at)
+        × Writes kindAt (now (s .entry)) count done at (r .done) (now (kinds .entry)) (now (kinds .exit))
+        × Writes payloadAt (now (s .entry)) count done at (r .done) (now (payloads .entry)) (now (payloads .exit)) ⌝ }
+{
+    let k = kind(bits(b, 4, 3));
+    let next = at + (1 + size * wide);
+    fill_short(s, at + 1, wide, k, kinds, payloads, done, size);
+    if size == 1 {
+        return write_same(s, next, done + 1, count, b, 1, wide, k, kinds, payloads);
+    }
+    write_same(
+        s,
+        next,
+        done + size,
+        count,
+        b,
+        size,
+        wide,
+        k,
+        kinds,
+        payloads,
+    )
+}
+
 // Writes the values of a series that is known to be whole.
 fn write(s: &[u8], from: usize, count: usize, kinds: &mut [u32], payloads: &mut [u64])
     requires { ⌜ (length (now s) ≤ limit) × (from ≤ length (now s)) × (count < 2 ^ 32)
@@ -278,6 +412,7 @@ fn write(s: &[u8], from: usize, count: usize, kinds: &mut [u32], payloads: &mut 
     let mut size: usize = 0;
     let mut wide: usize = 0;
     while done < count {
+        at = past_empty(s, at);
         let b = byte(s, at);
         let tag = bits(b, 4, 3);
         if b < 48 {
@@ -287,9 +422,9 @@ fn write(s: &[u8], from: usize, count: usize, kinds: &mut [u32], payloads: &mut 
             at += 1;
             done += n;
         } else if again(b, last, size, wide, count - done, s.len() - at, 8) {
-            fill_short(s, at + 1, wide, kind(tag), kinds, payloads, done, size);
-            at += 1 + (size * wide);
-            done += size;
+            let p = repeat(s, at, done, count, b, size, wide, kinds, payloads);
+            at = p.at;
+            done = p.done;
         } else {
             let first = at + 1 + (bits(b, 7, 1) as usize);
             let n = least(length_of(b, byte(s, at + 1)) as usize, count - done);

@@ -27,6 +27,16 @@ const SERIES: [(&str, &[u8]); 8] = [
     ("mixed", &[0, 1, 2, 3, 4, 5, 6, 7]),
 ];
 
+/// The same for runs of one value each.
+const ONES: [(&str, &[u8]); 6] = [
+    ("runs of one null", &[0]),
+    ("runs of one truth", &[1, 2]),
+    ("runs of one number", &[3]),
+    ("runs of one string", &[5]),
+    ("runs of one integer", &[7]),
+    ("runs of one number or integer", &[3, 7]),
+];
+
 /// Bytes of a value, by bits 4 to 6 of its tag.
 const WIDTHS: [usize; 8] = [0, 0, 0, 8, 4, 2, 1, 4];
 
@@ -47,8 +57,17 @@ pub fn rows(bench: &Bench) {
         }
     }
     Series::new(SERIES[7].1, 1_000_000).made_anew(bench, "mixed, tables made anew", &file);
+    for (name, bits) in ONES {
+        for count in [10_000, 1_000_000] {
+            Series::of(bits, 1, count).read(bench, name, &file);
+        }
+    }
     for count in [10_000, 1_000_000] {
-        Series::empty(count).read(bench, "empty tags before one value", &file);
+        Series::empty(|_| 7, count).read(bench, "empty tags before one value", &file);
+    }
+    for count in [10_000, 1_000_000] {
+        let kinds = |random: &mut Random| random.byte() >> 5;
+        Series::empty(kinds, count).read(bench, "empty tags of any kind", &file);
     }
 }
 
@@ -73,12 +92,17 @@ struct Series {
 
 impl Series {
     fn new(bits: &[u8], values: usize) -> Series {
+        Series::of(bits, 15, values)
+    }
+
+    /// Values in runs of 1 to `most`.
+    fn of(bits: &[u8], most: usize, values: usize) -> Series {
         let mut random = Random::new(1);
         let mut buffer = Vec::new();
         let mut left = values;
         while left > 0 {
             let bits = random.pick(bits);
-            let length = (1 + random.below(15)).min(left);
+            let length = (1 + random.below(most)).min(left);
             buffer.push(bits << 4 | length as u8);
             for _ in 0..length {
                 // Strings of the file alone: any other costs the Rust a text that it has to write.
@@ -97,8 +121,10 @@ impl Series {
         }
     }
 
-    fn empty(tags: usize) -> Series {
-        let mut buffer = vec![0x70; tags];
+    /// One value behind empty tags.
+    fn empty(bits: impl Fn(&mut Random) -> u8, tags: usize) -> Series {
+        let mut random = Random::new(1);
+        let mut buffer: Vec<u8> = (0..tags).map(|_| bits(&mut random) << 4).collect();
         buffer.push(0x11);
         Series {
             buffer,

@@ -6,7 +6,9 @@ use Rattle.hbc_bits.proofs.Laws.{field-lt}
 use Rattle.hbc_buffer_literal.proofs.Laws.{width-most}
 use Rattle.hbc_buffer.proofs.Fills.{small-product}
 use Rattle.hbc_buffer.proofs.Tags.{tag-there, tag-cut}
-use Rattle.hbc_buffer.proofs.Passes.{Passed, passed-first, passed-none, passed-cut, passed-more, passed-all, positive, quotient, Known, known-first, known-next, known-on, again-more, none-more}
+use Rattle.hbc_buffer.proofs.Passes.{passed-first, passed-none, passed-cut, passed-more, passed-all, positive, quotient, known-first, known-next, known-on, again-more, none-more}
+use Rattle.hbc_buffer.proofs.Going.{empties-more}
+use Rattle.hbc_buffer.specs.Private.{Passed, Known}
 use borrow.Author.Needs.{needs}
 use Rattle.hbc_buffer.proofs.check.Statement.{statement}
 use Rattle.hbc_buffer.proofs.check.Tie as tie
@@ -26,13 +28,13 @@ abbrev Turn : Type 0
 Turn = tie.After-byte Inv-loop μ-loop
 
 abbrev entered : Turn → tie.In-loop Inv-loop μ-loop
-entered c = c .before
+entered c = c .before .before
 
 abbrev head : Turn → tie.At-loop Inv-loop μ-loop
-head c = c .before .before
+head c = c .before .before .before
 
 abbrev start : Turn → tie.Start Inv-loop μ-loop
-start c = c .before .before .before .before
+start c = c .before .before .before .before .before
 
 -- the turn of the third arm, from where its run is made out
 abbrev run-turn : tie.After-width-of Inv-loop μ-loop → Turn
@@ -42,6 +44,9 @@ run-turn c = c .before .before .before .before .before .before .before .before .
 
 loop-holds : tie.Need-loop-holds Inv-loop μ-loop
 loop-holds c = (passed-first _ _ _ (c .before .pre .1), known-first _)
+
+past-empty-requires : tie.Need-past-empty-requires Inv-loop μ-loop
+past-empty-requires c κs = (c .before .before .before .pre .0, c .before .loop .inv .0 .within)
 
 byte-requires : tie.Need-byte-requires Inv-loop μ-loop
 byte-requires c κs = search needs
@@ -58,13 +63,14 @@ returns : tie.Need-returns Inv-loop μ-loop
 returns c =
     let turn = c .before .before .before in
     let inv = head turn .loop .inv in
-    let cut = tag-cut _ _ (start turn .pre .0) (turn .byte .ensures .0) refl refl (inv .0 .within) (omega (arith, c .before .if2 .taken)) in
-    rw (c .refuse .ensures) (passed-none (inv .0) (entered turn .loop-test .taken) (cut .0) (cut .1))
+    let stand = empties-more (entered turn .loop-test .taken) (start turn .pre .0) (inv .0) (turn .before .past-empty .ensures) in
+    let cut = tag-cut _ _ (start turn .pre .0) (turn .byte .ensures .0) refl refl (stand .within) (omega (arith, c .before .if2 .taken)) in
+    rw (c .refuse .ensures) (passed-none stand (entered turn .loop-test .taken) (cut .0) (cut .1))
 
 add-at : tie.Need-add-at Inv-loop μ-loop
 add-at c =
     let turn = c .before .before in
-    omega (arith, head turn .loop .inv .0 .within, start turn .pre .0)
+    omega (arith, turn .before .past-empty .ensures .within, start turn .pre .0)
 
 bits-requires : tie.Need-bits-requires Inv-loop μ-loop
 bits-requires c κs = search needs
@@ -85,10 +91,11 @@ loop-again : tie.Need-loop-again Inv-loop μ-loop
 loop-again c =
     let turn = c .before .before .before .before in
     let inv = head turn .loop .inv in
+    let stand = empties-more (entered turn .loop-test .taken) (start turn .pre .0) (inv .0) (turn .before .past-empty .ensures) in
     let some = entered turn .loop-test .taken in
     let low = c .before .before .before .if1 .taken in
-    let here = c .before .before .if2 .left in (
-      none-more (inv .0) some (start turn .pre .0) (turn .byte .ensures .0) low (omega (arith, here)) (c .before .bits .ensures) (c .least .ensures),
+    let inside = c .before .before .if2 .left in (
+      none-more stand some (start turn .pre .0) (turn .byte .ensures .0) low (omega (arith, inside)) (c .before .bits .ensures) (c .least .ensures),
       known-on _ (inv .1) some,
     )
 
@@ -96,46 +103,64 @@ sub-again : tie.Need-sub-again Inv-loop μ-loop
 sub-again c = search needs
 
 sub-again-2 : tie.Need-sub-again-2 Inv-loop μ-loop
-sub-again-2 c = head (c .before) .loop .inv .0 .within
+sub-again-2 c = c .before .before .past-empty .ensures .within
 
 again-requires : tie.Need-again-requires Inv-loop μ-loop
 again-requires c κs = let known = head (c .before) .loop .inv .1 in (known .small, known .narrow, omega arith)
 
-mul-at : tie.Need-mul-at Inv-loop μ-loop
-mul-at c =
+mul-past-same : tie.Need-mul-past-same Inv-loop μ-loop
+mul-past-same c =
     let loop = head (c .before .before .before) .loop in
     omega (arith, small-product (loop .size) (loop .wide) (loop .inv .1 .small) (loop .inv .1 .narrow))
 
-add-at-2 : tie.Need-add-at-2 Inv-loop μ-loop
-add-at-2 c =
+add-past-same : tie.Need-add-past-same Inv-loop μ-loop
+add-past-same c =
     let loop = head (c .before .before .before) .loop in
     omega (arith, small-product (loop .size) (loop .wide) (loop .inv .1 .small) (loop .inv .1 .narrow))
 
-add-at-3 : tie.Need-add-at-3 Inv-loop μ-loop
-add-at-3 c =
+add-past-same-2 : tie.Need-add-past-same-2 Inv-loop μ-loop
+add-past-same-2 c =
     let turn = c .before .before .before in
     let again = c .before .again .ensures (c .if3 .taken) in
-    omega (arith, again .3, head turn .loop .inv .0 .within, start turn .pre .0)
+    omega (arith, again .3, turn .before .past-empty .ensures .within, start turn .pre .0)
 
-add-done-2 : tie.Need-add-done-2 Inv-loop μ-loop
-add-done-2 c =
+add-past-same-3 : tie.Need-add-past-same-3 Inv-loop μ-loop
+add-past-same-3 c =
     let again = c .before .again .ensures (c .if3 .taken) in
     omega (arith, again .2, start (c .before .before .before) .pre .2)
 
+past-same-requires : tie.Need-past-same-requires Inv-loop μ-loop
+past-same-requires c κs =
+    let turn = c .before .before .before in
+    let pre = start turn .pre in
+    let some = entered turn .loop-test .taken in
+    let again = c .before .again .ensures (c .if3 .taken) in (
+      pre .0,
+      omega (arith, again .3, turn .before .past-empty .ensures .within),
+      omega (arith, again .2, some),
+      pre .2,
+      rw (again .0) (known-on _ (head turn .loop .inv .1) some),
+    )
+
 loop-less-2 : tie.Need-loop-less-2 Inv-loop μ-loop
-loop-less-2 c = omega (arith, (c .before .again .ensures (c .if3 .taken)) .3)
+loop-less-2 c =
+    let turn = c .before .before .before .before in
+    let again = c .before .before .again .ensures (c .before .if3 .taken) in
+    omega (arith, again .3, turn .before .past-empty .ensures .up, c .past-same .ensures .up, c .past-same .ensures .within)
 
 loop-again-2 : tie.Need-loop-again-2 Inv-loop μ-loop
 loop-again-2 c =
-    let turn = c .before .before .before in
+    let turn = c .before .before .before .before in
     let inv = head turn .loop .inv in
     let some = entered turn .loop-test .taken in
-    (again-more (inv .0) some (start turn .pre .0) (inv .1) (turn .byte .ensures .0) 0 (c .before .again .ensures (c .if3 .taken)), known-on _ (inv .1) some)
+    let stand = empties-more some (start turn .pre .0) (inv .0) (turn .before .past-empty .ensures) in
+    let again = c .before .before .again .ensures (c .before .if3 .taken) in
+    (c .past-same .ensures .on _ (again-more stand some (start turn .pre .0) (inv .1) (turn .byte .ensures .0) 0 again), known-on _ (inv .1) some)
 
 add-first : tie.Need-add-first Inv-loop μ-loop
 add-first c =
     let turn = c .before .before .before in
-    omega (arith, head turn .loop .inv .0 .within, start turn .pre .0)
+    omega (arith, turn .before .past-empty .ensures .within, start turn .pre .0)
 
 bits-requires-2 : tie.Need-bits-requires-2 Inv-loop μ-loop
 bits-requires-2 c κs = search needs
@@ -144,7 +169,7 @@ add-first-2 : tie.Need-add-first-2 Inv-loop μ-loop
 add-first-2 c =
     let turn = c .before .before .before .before in
     let high = field-lt 1 7 1 (turn .byte .result) (omega arith) in
-    omega (arith, head turn .loop .inv .0 .within, start turn .pre .0, c .bits2 .ensures, high)
+    omega (arith, turn .before .past-empty .ensures .within, start turn .pre .0, c .bits2 .ensures, high)
 
 cast-refuse-2 : tie.Need-cast-refuse-2 Inv-loop μ-loop
 cast-refuse-2 c =
@@ -158,14 +183,15 @@ returns-2 : tie.Need-returns-2 Inv-loop μ-loop
 returns-2 c =
     let turn = c .before .before .before .before .before .before in
     let inv = head turn .loop .inv in
+    let stand = empties-more (entered turn .loop-test .taken) (start turn .pre .0) (inv .0) (turn .before .past-empty .ensures) in
     let high = c .before .before .bits2 .ensures in
-    let cut = tag-cut _ _ (start turn .pre .0) (turn .byte .ensures .0) refl high (inv .0 .within) (c .before .if4 .taken) in
-    rw (c .refuse2 .ensures) (passed-none (inv .0) (entered turn .loop-test .taken) (cut .0) (cut .1))
+    let cut = tag-cut _ _ (start turn .pre .0) (turn .byte .ensures .0) refl high (stand .within) (c .before .if4 .taken) in
+    rw (c .refuse2 .ensures) (passed-none stand (entered turn .loop-test .taken) (cut .0) (cut .1))
 
 add-byte : tie.Need-add-byte Inv-loop μ-loop
 add-byte c =
     let turn = c .before .before .before .before .before in
-    omega (arith, head turn .loop .inv .0 .within, start turn .pre .0)
+    omega (arith, turn .before .past-empty .ensures .within, start turn .pre .0)
 
 byte-requires-2 : tie.Need-byte-requires-2 Inv-loop μ-loop
 byte-requires-2 c κs = search needs
@@ -212,6 +238,7 @@ returns-3 c =
     let run = c .before .before in
     let turn = run-turn run in
     let inv = head turn .loop .inv in
+    let stand = empties-more (entered turn .loop-test .taken) (start turn .pre .0) (inv .0) (turn .before .past-empty .ensures) in
     let pre = start turn .pre in
     let some = entered turn .loop-test .taken in
     let high = run .before .before .before .before .before .bits2 .ensures in
@@ -220,20 +247,20 @@ returns-3 c =
     let there = tag-there _ _ (pre .0) (turn .byte .ensures .0) refl high second len (run .before .before .before .before .if4 .left) in
     let few = run .before .least2 .ensures in
     let wide = run .width-of .ensures in
-    rw (c .refuse3 .ensures, wide) (passed-cut (inv .0) some (pre .0) there _ few (rw (← wide) (c .before .if5 .taken)))
+    rw (c .refuse3 .ensures, wide) (passed-cut stand some (pre .0) there _ few (rw (← wide) (c .before .if5 .taken)))
 
-mul-at-2 : tie.Need-mul-at-2 Inv-loop μ-loop
-mul-at-2 c =
+mul-at : tie.Need-mul-at Inv-loop μ-loop
+mul-at c =
     let run = c .before in
     let few = run .before .least2 in
     let most : few .result < 4294967296 = omega (arith, few .ensures, start (run-turn run) .pre .2) in
     omega (arith, small-product (few .result) (run .width-of .result) most (rw (run .width-of .ensures) (width-most _)))
 
-add-at-4 : tie.Need-add-at-4 Inv-loop μ-loop
-add-at-4 c = omega (arith, c .if5 .left, c .before .before .before .before .before .if4 .left, start (run-turn (c .before)) .pre .0)
+add-at-2 : tie.Need-add-at-2 Inv-loop μ-loop
+add-at-2 c = omega (arith, c .if5 .left, c .before .before .before .before .before .if4 .left, start (run-turn (c .before)) .pre .0)
 
-add-done-3 : tie.Need-add-done-3 Inv-loop μ-loop
-add-done-3 c = omega (arith, c .before .before .least2 .ensures)
+add-done-2 : tie.Need-add-done-2 Inv-loop μ-loop
+add-done-2 c = omega (arith, c .before .before .least2 .ensures)
 
 loop-less-3 : tie.Need-loop-less-3 Inv-loop μ-loop
 loop-less-3 c = omega (arith, c .if5 .left, c .before .before .before .before .before .if4 .left)
@@ -243,6 +270,7 @@ loop-again-3 c =
     let run = c .before in
     let turn = run-turn run in
     let inv = head turn .loop .inv in
+    let stand = empties-more (entered turn .loop-test .taken) (start turn .pre .0) (inv .0) (turn .before .past-empty .ensures) in
     let pre = start turn .pre in
     let some = entered turn .loop-test .taken in
     let high = run .before .before .before .before .before .bits2 .ensures in
@@ -251,13 +279,13 @@ loop-again-3 c =
     let there = tag-there _ _ (pre .0) (turn .byte .ensures .0) refl high second len (run .before .before .before .before .if4 .left) in
     let few = run .before .least2 .ensures in
     let wide = run .width-of .ensures in
-    (rw wide (passed-more (inv .0) some (pre .0) there _ few (rw (← wide) (c .if5 .left))), known-next _ _ some (pre .2) len few wide)
+    (rw wide (passed-more stand some (pre .0) there _ few (rw (← wide) (c .if5 .left))), known-next _ _ some (pre .2) len few wide)
 
-sub-t40 : tie.Need-sub-t40 Inv-loop μ-loop
-sub-t40 c = c .before .loop .inv .0 .up
+sub-t43 : tie.Need-sub-t43 Inv-loop μ-loop
+sub-t43 c = c .before .loop .inv .0 .up
 
-cast-t41 : tie.Need-cast-t41 Inv-loop μ-loop
-cast-t41 c = omega (arith, c .before .loop .inv .0 .within, c .before .before .before .pre .0)
+cast-t44 : tie.Need-cast-t44 Inv-loop μ-loop
+cast-t44 c = omega (arith, c .before .loop .inv .0 .within, c .before .before .before .pre .0)
 
 returns-4 : tie.Need-returns-4 Inv-loop μ-loop
 returns-4 c = passed-all (c .before .loop .inv .0) (omega (arith, c .before .loop .inv .0 .below, c .loop-test .left))
@@ -269,6 +297,7 @@ check-spec =
     Inv-loop
     μ-loop
     loop-holds
+    past-empty-requires
     byte-requires
     cast-refuse
     refuse-requires
@@ -283,10 +312,11 @@ check-spec =
     sub-again
     sub-again-2
     again-requires
-    mul-at
-    add-at-2
-    add-at-3
-    add-done-2
+    mul-past-same
+    add-past-same
+    add-past-same-2
+    add-past-same-3
+    past-same-requires
     loop-less-2
     loop-again-2
     add-first
@@ -308,11 +338,11 @@ check-spec =
     cast-refuse-3
     refuse-requires-3
     returns-3
-    mul-at-2
-    add-at-4
-    add-done-3
+    mul-at
+    add-at-2
+    add-done-2
     loop-less-3
     loop-again-3
-    sub-t40
-    cast-t41
+    sub-t43
+    cast-t44
     returns-4)

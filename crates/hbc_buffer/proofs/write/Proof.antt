@@ -10,7 +10,9 @@ use Rattle.hbc_buffer_literal.specs.Literal.{widthOf}
 use Rattle.hbc_buffer_literal.proofs.Laws.{width-most}
 use Rattle.hbc_buffer.specs.Series.{kindAt, payloadAt}
 use Rattle.hbc_buffer.proofs.Fills.{filled-room, small-product}
-use Rattle.hbc_buffer.proofs.Passes.{Passed, passed-first, passed-more, whole-tag, whole-there, whole-room, within-tag, kinds-more, payloads-more, turn-within, turn-on, Known, known-first, known-next, known-on, again-more, again-kinds, again-payloads, none-more, none-kinds, none-payloads}
+use Rattle.hbc_buffer.proofs.Passes.{passed-first, passed-more, whole-tag, whole-there, whole-room, within-tag, kinds-more, payloads-more, turn-within, turn-on, known-first, known-next, known-on, none-more, none-kinds, none-payloads}
+use Rattle.hbc_buffer.proofs.Going.{empties-more}
+use Rattle.hbc_buffer.specs.Private.{Passed, Known}
 use borrow.Author.Needs.{needs}
 use Rattle.hbc_buffer.proofs.write.Statement.{statement}
 use Rattle.hbc_buffer.proofs.write.Tie as tie
@@ -32,23 +34,17 @@ abbrev Turn : Type 0
 Turn = tie.After-bits Inv-loop μ-loop
 
 abbrev entered : Turn → tie.In-loop Inv-loop μ-loop
-entered c = c .before .before
+entered c = c .before .before .before
 
 abbrev head : Turn → tie.At-loop Inv-loop μ-loop
-head c = c .before .before .before
+head c = c .before .before .before .before
 
 abbrev start : Turn → tie.Start Inv-loop μ-loop
-start c = c .before .before .before .before .before .before .before
+start c = c .before .before .before .before .before .before .before .before
 
 -- the turn of each arm, from the arm's end, and of the third from where its run is made out
 abbrev none-turn : tie.After-slice-known4 Inv-loop μ-loop → Turn
 none-turn c = c .before .before .before .before .before .before .before .before .before .before .before
-
-abbrev again-arm : tie.After-slice-known6 Inv-loop μ-loop → tie.Then2 Inv-loop μ-loop
-again-arm c = c .before .before .before .before .before .before .before .before
-
-abbrev again-turn : tie.Then2 Inv-loop μ-loop → Turn
-again-turn c = c .before .before .before
 
 abbrev run-turn : tie.After-width-of Inv-loop μ-loop → Turn
 run-turn c = c .before .before .before .before .before .before .before .before
@@ -61,6 +57,9 @@ made-out c = c .before .before .before .before .before .before .before
 loop-holds : tie.Need-loop-holds Inv-loop μ-loop
 unfolding filled
 loop-holds c = (passed-first _ _ _ (c .before .before .before .pre .1), known-first _, refl, refl)
+
+past-empty-requires : tie.Need-past-empty-requires Inv-loop μ-loop
+past-empty-requires c κs = (c .before .before .before .before .before .pre .0, c .before .loop .inv .0 .within)
 
 byte-requires : tie.Need-byte-requires Inv-loop μ-loop
 byte-requires c κs = search needs
@@ -92,7 +91,7 @@ fill-none-requires c κs =
 add-at : tie.Need-add-at Inv-loop μ-loop
 add-at c =
     let turn = none-turn c in
-    omega (arith, head turn .loop .inv .0 .within, start turn .pre .0)
+    omega (arith, turn .before .before .past-empty .ensures .within, start turn .pre .0)
 
 add-done : tie.Need-add-done Inv-loop μ-loop
 add-done c = omega (arith, c .before .before .before .before .before .before .before .before .least .ensures)
@@ -101,12 +100,16 @@ loop-less : tie.Need-loop-less Inv-loop μ-loop
 loop-less c =
     let turn = none-turn c in
     let pre = start turn .pre in
-    omega (arith, whole-tag (head turn .loop .inv .0) (entered turn .loop-test .taken) (pre .0) (turn .before .byte .ensures .0) refl (pre .5))
+    let some = entered turn .loop-test .taken in
+    let past = turn .before .before .past-empty .ensures in
+    let stand = empties-more some (pre .0) (head turn .loop .inv .0) past in
+    omega (arith, past .up, whole-tag stand some (pre .0) (turn .before .byte .ensures .0) refl (pre .5))
 
 loop-again : tie.Need-loop-again Inv-loop μ-loop
 loop-again c =
     let turn = none-turn c in
     let inv = head turn .loop .inv in
+    let stand = empties-more (entered turn .loop-test .taken) (start turn .pre .0) (inv .0) (turn .before .before .past-empty .ensures) in
     let pre = start turn .pre in
     let some = entered turn .loop-test .taken in
     let byte = turn .before .byte .ensures .0 in
@@ -114,94 +117,60 @@ loop-again c =
     let len = c .before .before .before .before .before .before .before .before .before .bits2 .ensures in
     let few = c .before .before .before .before .before .before .before .before .least .ensures in
     let filled = c .before .before .before .before .fill-none .ensures in
-    let here = within-tag _ _ (whole-tag (inv .0) some (pre .0) byte refl (pre .5)) in (
-      none-more (inv .0) some (pre .0) byte low here len few,
+    let here = within-tag _ _ (whole-tag stand some (pre .0) byte refl (pre .5)) in (
+      none-more stand some (pre .0) byte low here len few,
       known-on _ (inv .1) some,
-      filled .0 ∙ none-kinds (inv .0) some (pre .0) byte low here len few _ (turn .bits .ensures) (c .before .before .before .before .before .kind .ensures) (inv .2),
-      filled .1 ∙ none-payloads (inv .0) some (pre .0) byte low here len few _ (inv .3),
+      filled .0 ∙ none-kinds stand some (pre .0) byte low here len few _ (turn .bits .ensures) (c .before .before .before .before .before .kind .ensures) (inv .2),
+      filled .1 ∙ none-payloads stand some (pre .0) byte low here len few _ (inv .3),
     )
 
 sub-again : tie.Need-sub-again Inv-loop μ-loop
 sub-again c = search needs
 
 sub-again-2 : tie.Need-sub-again-2 Inv-loop μ-loop
-sub-again-2 c = head (c .before) .loop .inv .0 .within
+sub-again-2 c = c .before .before .before .past-empty .ensures .within
 
 again-requires : tie.Need-again-requires Inv-loop μ-loop
 again-requires c κs = let known = head (c .before) .loop .inv .1 in (known .small, known .narrow, omega arith)
 
-add-fill-short : tie.Need-add-fill-short Inv-loop μ-loop
-add-fill-short c =
-    let turn = again-turn c in
-    omega (arith, head turn .loop .inv .0 .within, start turn .pre .0)
-
-kind-requires-2 : tie.Need-kind-requires-2 Inv-loop μ-loop
-kind-requires-2 c κs = search needs
-
-fill-short-requires : tie.Need-fill-short-requires Inv-loop μ-loop
-fill-short-requires c κs =
-    let arm = c .before .before .before in
-    let turn = again-turn arm in
+repeat-requires : tie.Need-repeat-requires Inv-loop μ-loop
+repeat-requires c κs =
+    let turn = c .before .before .before .before .before in
     let inv = head turn .loop .inv in
     let pre = start turn .pre in
     let some = entered turn .loop-test .taken in
-    let again = arm .before .again .ensures (arm .if2 .taken) in (
+    let again = c .before .before .before .again .ensures (c .before .before .if2 .taken) in (
       pre .0,
-      omega (arith, again .3, inv .0 .within),
-      inv .1 .narrow,
-      filled-room _ _ _ (inv .2) (pre .3) (omega (arith, again .2, some)),
-      filled-room _ _ _ (inv .3) (pre .4) (omega (arith, again .2, some)),
+      some,
+      pre .2,
+      rw (again .0) (inv .1),
+      filled-room _ _ _ (inv .2) (pre .3) (omega arith),
+      filled-room _ _ _ (inv .3) (pre .4) (omega arith),
+      turn .before .byte .ensures .0,
+      again .1,
+      again .2,
+      again .3,
     )
-
-mul-at : tie.Need-mul-at Inv-loop μ-loop
-mul-at c =
-    let loop = head (again-turn (again-arm c)) .loop in
-    omega (arith, small-product (loop .size) (loop .wide) (loop .inv .1 .small) (loop .inv .1 .narrow))
-
-add-at-2 : tie.Need-add-at-2 Inv-loop μ-loop
-add-at-2 c =
-    let loop = head (again-turn (again-arm c)) .loop in
-    omega (arith, small-product (loop .size) (loop .wide) (loop .inv .1 .small) (loop .inv .1 .narrow))
-
-add-at-3 : tie.Need-add-at-3 Inv-loop μ-loop
-add-at-3 c =
-    let arm = again-arm c in
-    let turn = again-turn arm in
-    let again = arm .before .again .ensures (arm .if2 .taken) in
-    omega (arith, again .3, head turn .loop .inv .0 .within, start turn .pre .0)
-
-add-done-2 : tie.Need-add-done-2 Inv-loop μ-loop
-add-done-2 c =
-    let arm = again-arm c in
-    let again = arm .before .again .ensures (arm .if2 .taken) in
-    omega (arith, again .2, start (again-turn arm) .pre .2)
 
 loop-less-2 : tie.Need-loop-less-2 Inv-loop μ-loop
 loop-less-2 c =
-    let arm = again-arm c in
-    let again = arm .before .again .ensures (arm .if2 .taken) in
-    omega (arith, again .3)
+    let past = c .before .before .before .before .before .before .before .before .before .before .before .before .past-empty .ensures in
+    let repeat = c .before .before .before .before .repeat .ensures in
+    omega (arith, past .up, repeat .0, repeat .1 .within)
 
 loop-again-2 : tie.Need-loop-again-2 Inv-loop μ-loop
 loop-again-2 c =
-    let arm = again-arm c in
-    let turn = again-turn arm in
+    let turn = c .before .before .before .before .before .before .before .before .before .before in
     let inv = head turn .loop .inv in
-    let short = start turn .pre .0 in
     let some = entered turn .loop-test .taken in
-    let byte = turn .before .byte .ensures .0 in
-    let again = arm .before .again .ensures (arm .if2 .taken) in
-    let filled = c .before .before .before .before .fill-short .ensures in (
-      again-more (inv .0) some short (inv .1) byte 8 again,
-      known-on _ (inv .1) some,
-      filled .0 ∙ again-kinds (inv .0) some short (inv .1) byte 8 again _ (turn .bits .ensures) (c .before .before .before .before .before .before .before .kind2 .ensures) (inv .2),
-      filled .1 ∙ again-payloads (inv .0) some short (inv .1) byte 8 again _ (inv .3),
-    )
+    let stand = empties-more some (start turn .pre .0) (inv .0) (turn .before .before .past-empty .ensures) in
+    let repeat = c .before .before .before .before .repeat .ensures in
+    (repeat .1 .on _ stand, known-on _ (inv .1) some, repeat .2 .on _ _ stand (inv .2), repeat .3 .on _ _ stand (inv .3))
 
 add-first : tie.Need-add-first Inv-loop μ-loop
 add-first c =
     let turn = c .before .before .before in
-    omega (arith, head turn .loop .inv .0 .within, start turn .pre .0)
+    omega (arith, turn .before .before .past-empty .ensures .within, start turn .pre .0)
 
 bits-requires-3 : tie.Need-bits-requires-3 Inv-loop μ-loop
 bits-requires-3 c κs = search needs
@@ -210,12 +179,12 @@ add-first-2 : tie.Need-add-first-2 Inv-loop μ-loop
 add-first-2 c =
     let turn = c .before .before .before .before in
     let high = field-lt 1 7 1 (turn .before .byte .result) (omega arith) in
-    omega (arith, head turn .loop .inv .0 .within, start turn .pre .0, c .bits3 .ensures, high)
+    omega (arith, turn .before .before .past-empty .ensures .within, start turn .pre .0, c .bits3 .ensures, high)
 
 add-byte : tie.Need-add-byte Inv-loop μ-loop
 add-byte c =
     let turn = c .before .before .before .before in
-    omega (arith, head turn .loop .inv .0 .within, start turn .pre .0)
+    omega (arith, turn .before .before .past-empty .ensures .within, start turn .pre .0)
 
 byte-requires-2 : tie.Need-byte-requires-2 Inv-loop μ-loop
 byte-requires-2 c κs = search needs
@@ -237,16 +206,17 @@ fill-requires c κs =
     let run = c .before .before in
     let turn = run-turn run in
     let inv = head turn .loop .inv in
+    let stand = empties-more (entered turn .loop-test .taken) (start turn .pre .0) (inv .0) (turn .before .before .past-empty .ensures) in
     let pre = start turn .pre in
     let some = entered turn .loop-test .taken in
     let tag = turn .bits .ensures in
     let high = run .before .before .before .before .bits3 .ensures in
     let second = run .before .before .before .byte2 .ensures .0 in
     let len = run .before .before .length-of .ensures in
-    let there = whole-there (inv .0) some (pre .0) (turn .before .byte .ensures .0) tag high second len (pre .5) in
+    let there = whole-there stand some (pre .0) (turn .before .byte .ensures .0) tag high second len (pre .5) in
     let few = run .before .least2 .ensures in
-    let room = whole-room (inv .0) some (pre .0) there _ few (pre .5) in
-    let within = turn-within (inv .0) some (pre .0) there _ few in (
+    let room = whole-room stand some (pre .0) there _ few (pre .5) in
+    let within = turn-within stand some (pre .0) there _ few in (
       pre .0,
       omega (arith, room, within),
       run .width-of .ensures ∙ ap widthOf (sym tag),
@@ -254,70 +224,76 @@ fill-requires c κs =
       filled-room _ _ _ (inv .3) (pre .4) (omega (arith, few, some)),
     )
 
-mul-at-2 : tie.Need-mul-at-2 Inv-loop μ-loop
-mul-at-2 c =
+mul-at : tie.Need-mul-at Inv-loop μ-loop
+mul-at c =
     let run = made-out c in
     let few = run .before .least2 in
     let most : few .result < 4294967296 = omega (arith, few .ensures, start (run-turn run) .pre .2) in
     omega (arith, small-product (few .result) (run .width-of .result) most (rw (run .width-of .ensures) (width-most _)))
 
-add-at-4 : tie.Need-add-at-4 Inv-loop μ-loop
-add-at-4 c =
+add-at-2 : tie.Need-add-at-2 Inv-loop μ-loop
+add-at-2 c =
     let run = made-out c in
     let turn = run-turn run in
     let inv = head turn .loop .inv in
+    let stand = empties-more (entered turn .loop-test .taken) (start turn .pre .0) (inv .0) (turn .before .before .past-empty .ensures) in
     let pre = start turn .pre in
     let some = entered turn .loop-test .taken in
     let tag = turn .bits .ensures in
     let high = run .before .before .before .before .bits3 .ensures in
     let second = run .before .before .before .byte2 .ensures .0 in
     let len = run .before .before .length-of .ensures in
-    let there = whole-there (inv .0) some (pre .0) (turn .before .byte .ensures .0) tag high second len (pre .5) in
+    let there = whole-there stand some (pre .0) (turn .before .byte .ensures .0) tag high second len (pre .5) in
     let few = run .before .least2 .ensures in
-    let room = whole-room (inv .0) some (pre .0) there _ few (pre .5) in
-    let within = turn-within (inv .0) some (pre .0) there _ few in
+    let room = whole-room stand some (pre .0) there _ few (pre .5) in
+    let within = turn-within stand some (pre .0) there _ few in
     rw (run .width-of .ensures ∙ ap widthOf (sym tag)) (omega (arith, room, within, pre .0))
 
-add-done-3 : tie.Need-add-done-3 Inv-loop μ-loop
-add-done-3 c = omega (arith, made-out c .before .least2 .ensures)
+add-done-2 : tie.Need-add-done-2 Inv-loop μ-loop
+add-done-2 c =
+    let run = made-out c in
+    let turn = run-turn run in
+    omega (arith, run .before .least2 .ensures, entered turn .loop-test .taken, start turn .pre .2)
 
 loop-less-3 : tie.Need-loop-less-3 Inv-loop μ-loop
 loop-less-3 c =
     let run = made-out c in
     let turn = run-turn run in
     let inv = head turn .loop .inv in
+    let stand = empties-more (entered turn .loop-test .taken) (start turn .pre .0) (inv .0) (turn .before .before .past-empty .ensures) in
     let pre = start turn .pre in
     let some = entered turn .loop-test .taken in
     let tag = turn .bits .ensures in
     let high = run .before .before .before .before .bits3 .ensures in
     let second = run .before .before .before .byte2 .ensures .0 in
     let len = run .before .before .length-of .ensures in
-    let there = whole-there (inv .0) some (pre .0) (turn .before .byte .ensures .0) tag high second len (pre .5) in
+    let there = whole-there stand some (pre .0) (turn .before .byte .ensures .0) tag high second len (pre .5) in
     let few = run .before .least2 .ensures in
-    let room = whole-room (inv .0) some (pre .0) there _ few (pre .5) in
-    let within = turn-within (inv .0) some (pre .0) there _ few in
-    let on = turn-on (inv .0) some (pre .0) there _ few in
-    rw (run .width-of .ensures ∙ ap widthOf (sym tag)) (omega (arith, room, pre .0, within, on))
+    let room = whole-room stand some (pre .0) there _ few (pre .5) in
+    let within = turn-within stand some (pre .0) there _ few in
+    let on = turn-on stand some (pre .0) there _ few in
+    rw (run .width-of .ensures ∙ ap widthOf (sym tag)) (omega (arith, room, pre .0, within, on, turn .before .before .past-empty .ensures .up))
 
 loop-again-3 : tie.Need-loop-again-3 Inv-loop μ-loop
 loop-again-3 c =
     let run = made-out c in
     let turn = run-turn run in
     let inv = head turn .loop .inv in
+    let stand = empties-more (entered turn .loop-test .taken) (start turn .pre .0) (inv .0) (turn .before .before .past-empty .ensures) in
     let pre = start turn .pre in
     let some = entered turn .loop-test .taken in
     let tag = turn .bits .ensures in
     let high = run .before .before .before .before .bits3 .ensures in
     let second = run .before .before .before .byte2 .ensures .0 in
     let len = run .before .before .length-of .ensures in
-    let there = whole-there (inv .0) some (pre .0) (turn .before .byte .ensures .0) tag high second len (pre .5) in
+    let there = whole-there stand some (pre .0) (turn .before .byte .ensures .0) tag high second len (pre .5) in
     let few = run .before .least2 .ensures in
-    let room = whole-room (inv .0) some (pre .0) there _ few (pre .5) in
+    let room = whole-room stand some (pre .0) there _ few (pre .5) in
     let filled = c .before .before .before .before .fill .ensures in (
-      rw (run .width-of .ensures ∙ ap widthOf (sym tag)) (passed-more (inv .0) some (pre .0) there _ few room),
+      rw (run .width-of .ensures ∙ ap widthOf (sym tag)) (passed-more stand some (pre .0) there _ few room),
       known-next _ _ some (pre .2) len few (run .width-of .ensures),
-      filled .0 ∙ kinds-more (inv .0) some (pre .0) there _ few _ room refl (inv .2),
-      filled .1 ∙ payloads-more (inv .0) some (pre .0) there _ few _ room (inv .3),
+      filled .0 ∙ kinds-more stand some (pre .0) there _ few _ room refl (inv .2),
+      filled .1 ∙ payloads-more stand some (pre .0) there _ few _ room (inv .3),
     )
 
 same-length : tie.Need-same-length Inv-loop μ-loop
@@ -338,6 +314,7 @@ write-spec =
     Inv-loop
     μ-loop
     loop-holds
+    past-empty-requires
     byte-requires
     bits-requires
     bits-requires-2
@@ -352,13 +329,7 @@ write-spec =
     sub-again
     sub-again-2
     again-requires
-    add-fill-short
-    kind-requires-2
-    fill-short-requires
-    mul-at
-    add-at-2
-    add-at-3
-    add-done-2
+    repeat-requires
     loop-less-2
     loop-again-2
     add-first
@@ -371,9 +342,9 @@ write-spec =
     least-requires-2
     width-of-requires
     fill-requires
-    mul-at-2
-    add-at-4
-    add-done-3
+    mul-at
+    add-at-2
+    add-done-2
     loop-less-3
     loop-again-3
     same-length
