@@ -29,17 +29,23 @@ pub empties-on : {s : List ℕ} {at p b : ℕ} → Empties s at p → p < length
 empties-on {s} {at} {p} e h f z = record { all = λ i l k. empty-by e f z l k (decLt i p); up = omega (arith, e .up); within = omega (arith, h) }
 
 module _ {s : List ℕ} {from count done : ℕ} (some : done < count) (short : length s ≤ limit) where
-  empty-more : {at : ℕ} → Passed s from count done at → (byteAt s at < 128) × (field 0 4 (byteAt s at) ≡ 0) → at < length s → Passed s from count done (suc at)
-  empty-more {at} g z h =
-      let e : at + 1 ≡ suc at = omega arith in
-      rw e at (skipped g some short (short-tag s at short refl (z .0) (omega (arith, h))) _ refl (z .1))
+  empty-more : {at : ℕ} → Passed s from count done at → (byteAt s at < 128) × (field 0 4 (byteAt s at) ≡ 0) → at < length s → Passed s from count done (at + 1)
+  empty-more {at} g z h = skipped g some short (short-tag s at short refl (z .0) (omega (arith, h))) _ refl (z .1)
+
+  next-by : {j : ℕ} → Passed s from count done (j + 1) → Passed s from count done (suc j)
+  next-by {j} g = let e : j + 1 ≡ suc j = omega arith in rw e at g
 
   -- past all of them
-  pub empties-more : {at next : ℕ} → Passed s from count done at → Empties s at next → Passed s from count done next
+  empties-more : {at next : ℕ} → Passed s from count done at → Empties s at next → Passed s from count done next
   empties-more {at} {next} g e =
       le-ind (λ (j : ℕ). j ≤ next → Passed s from count done j) (λ _. g)
-      (λ j l f h. empty-more (f (omega (arith, h))) (e .all j l (omega (arith, h))) (omega (arith, h, e .within)))
+      (λ j l f h. next-by (empty-more (f (omega (arith, h))) (e .all j l (omega (arith, h))) (omega (arith, h, e .within))))
       next (e .up) (omega arith)
+
+  -- the one at hand, and all that follow it
+  pub empties-from : {at next b : ℕ} → Passed s from count done at → b ≡ byteAt s at → (b < 128) × (field 0 4 b ≡ 0) × (0 < length s - at) → Empties s (at + 1) next
+      → Passed s from count done next
+  empties-from g first z e = empties-more (empty-more g (rw (← first) (z .0), rw (← first) (z .1)) (omega (arith, z .2))) e
 
 -- ---- runs that are the last one again
 

@@ -32,6 +32,15 @@ pub byte-is : (s : List ℕ) (at : ℕ) → length s ≤ limit → at < length s
 unfolding byteAt
 byte-is s at h l = let e = plain-is 1 s (cursorAt at) h (omega arith) in rw e
 
+inside-by : (s : List ℕ) (at : ℕ) {b : ℕ} → length s ≤ limit → at ≤ length s → b ≡ byteAt s at → 0 < b → Dec (at < length s) → at < length s
+unfolding byteAt
+inside-by s at h l e k (yes z) = z
+inside-by s at h l e k (no z) = let q = rw (plain-cut 1 s at h l (omega arith)) at e in absurd (omega (arith, q, k))
+
+-- what is not 0 is there
+pub byte-inside : (s : List ℕ) (at : ℕ) {b : ℕ} → length s ≤ limit → at ≤ length s → b ≡ byteAt s at → 0 < b → at < length s
+byte-inside s at h l e k = inside-by s at h l e k (decLt at (length s))
+
 module _ (s : List ℕ) (at : ℕ) (short : length s ≤ limit) {b t h : ℕ} (first : b ≡ byteAt s at) (tag : t ≡ field 4 3 b) (high : h ≡ field 7 1 b) where
   there-by : (x : Bool) {y n : ℕ} → eqb (field 7 1 b) 0 ≡ x → y ≡ byteAt s (at + 1) → n ≡ lengthOf b y → at + 1 + h ≤ length s → tagAt s (cursorAt at) ≡ got (runOf t n) (cursorAt (at + 1 + h))
   unfolding tagAt lengthOf

@@ -89,32 +89,46 @@ fn again(
     false
 }
 
-// Whether a tag byte has no values, whatever its kind: bits 0 to 3 and bit 7 are 0.
-fn empty(b: u64) -> bool
-    ensures { λ r. ⌜ (r ≡ true → (b < 128) × (field 0 4 b ≡ 0)) ⌝ }
+// Whether a tag byte that is there has no values, whatever its kind: bits 0 to 3 and bit 7 are 0.
+fn empty(b: u64, room: usize) -> bool
+    ensures { λ r. ⌜ (r ≡ true → (b < 128) × (field 0 4 b ≡ 0) × (0 < room)) ⌝ }
 {
     if bits(b, 0, 4) == 0 {
         if b < 128 {
-            return true;
+            if 0 < room {
+                return true;
+            }
         }
     }
     false
 }
 
-// Past the empty tags of one byte that stand from `at` on, of any kinds: one loop, so that none of them is made out.
+// Past the empty tags of one byte that stand from `at` on, of any kinds: nothing else is made out of them.
 fn past_empty(s: &[u8], at: usize) -> usize
     requires { ⌜ (length (now s) ≤ limit) × (at ≤ length (now s)) ⌝ }
     ensures { λ r. ⌜ Empties (now (s .entry)) at r ⌝ }
 {
     let mut p = at;
     while p < s.len() {
-        if empty(byte(s, p)) {
+        if empty(byte(s, p), s.len() - p) {
             p += 1;
         } else {
             return p;
         }
     }
     p
+}
+
+// Whether a tag byte is one of null, true and false, which no bytes follow. It is not 0, which is also what is read past the end.
+fn light(b: u64) -> bool
+    ensures { λ r. ⌜ (r ≡ true → (0 < b) × (b < 48)) ⌝ }
+{
+    if 0 < b {
+        if b < 48 {
+            return true;
+        }
+    }
+    false
 }
 
 // Where a pass stands: a place in the file, and how many values are read.
@@ -160,13 +174,10 @@ fn check(s: &[u8], from: usize, count: usize) -> Series
     let mut size: usize = 0;
     let mut wide: usize = 0;
     while done < count {
-        at = past_empty(s, at);
         let b = byte(s, at);
-        if b < 48 {
-            // no bytes follow such a tag, whatever its length
-            if s.len() <= at {
-                return Series::Refused(refuse(3, done as u32));
-            }
+        if empty(b, s.len() - at) {
+            at = past_empty(s, at + 1);
+        } else if light(b) {
             at += 1;
             done += least(bits(b, 0, 4) as usize, count - done);
         } else if again(b, last, size, wide, count - done, s.len() - at, 0) {
@@ -412,11 +423,11 @@ fn write(s: &[u8], from: usize, count: usize, kinds: &mut [u32], payloads: &mut 
     let mut size: usize = 0;
     let mut wide: usize = 0;
     while done < count {
-        at = past_empty(s, at);
         let b = byte(s, at);
         let tag = bits(b, 4, 3);
-        if b < 48 {
-            // no bytes follow such a tag, whatever its length
+        if empty(b, s.len() - at) {
+            at = past_empty(s, at + 1);
+        } else if light(b) {
             let n = least(bits(b, 0, 4) as usize, count - done);
             fill_none(kinds, payloads, kind(tag), done, n);
             at += 1;

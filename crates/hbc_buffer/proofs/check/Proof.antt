@@ -5,15 +5,15 @@ use lib.ListN.{length}
 use Rattle.hbc_bits.proofs.Laws.{field-lt}
 use Rattle.hbc_buffer_literal.proofs.Laws.{width-most}
 use Rattle.hbc_buffer.proofs.Fills.{small-product}
-use Rattle.hbc_buffer.proofs.Tags.{tag-there, tag-cut}
+use Rattle.hbc_buffer.proofs.Tags.{byte-inside, tag-there, tag-cut}
 use Rattle.hbc_buffer.proofs.Passes.{passed-first, passed-none, passed-cut, passed-more, passed-all, positive, quotient, known-first, known-next, known-on, again-more, none-more}
-use Rattle.hbc_buffer.proofs.Going.{empties-more}
+use Rattle.hbc_buffer.proofs.Going.{empties-from}
 use Rattle.hbc_buffer.specs.Private.{Passed, Known}
 use borrow.Author.Needs.{needs}
 use Rattle.hbc_buffer.proofs.check.Statement.{statement}
 use Rattle.hbc_buffer.proofs.check.Tie as tie
 
--- `done` of the values are read, the run that they end in is spent, and only empty tags stand between its end and `at`; of the last run the tag byte,
+-- `done` of the values are read, the run that they end in is spent, and only empty tags (inv .0) between its end and `at`; of the last run the tag byte,
 -- length and width are kept.
 abbrev Inv-loop : tie.InvT-loop
 Inv-loop s from count at₀ done₀ last₀ size₀ wide₀ at done last size wide = Passed s from count done at × Known count done last size wide
@@ -28,49 +28,56 @@ abbrev Turn : Type 0
 Turn = tie.After-byte Inv-loop μ-loop
 
 abbrev entered : Turn → tie.In-loop Inv-loop μ-loop
-entered c = c .before .before
+entered c = c .before
 
 abbrev head : Turn → tie.At-loop Inv-loop μ-loop
-head c = c .before .before .before
+head c = c .before .before
 
 abbrev start : Turn → tie.Start Inv-loop μ-loop
-start c = c .before .before .before .before .before
+start c = c .before .before .before .before
 
 -- the turn of the third arm, from where its run is made out
 abbrev run-turn : tie.After-width-of Inv-loop μ-loop → Turn
-run-turn c = c .before .before .before .before .before .before .before .before .before
+run-turn c = c .before .before .before .before .before .before .before .before .before .before .before .before
 
 -- ---- the answers
 
 loop-holds : tie.Need-loop-holds Inv-loop μ-loop
 loop-holds c = (passed-first _ _ _ (c .before .pre .1), known-first _)
 
-past-empty-requires : tie.Need-past-empty-requires Inv-loop μ-loop
-past-empty-requires c κs = (c .before .before .before .pre .0, c .before .loop .inv .0 .within)
-
 byte-requires : tie.Need-byte-requires Inv-loop μ-loop
 byte-requires c κs = search needs
 
-cast-refuse : tie.Need-cast-refuse Inv-loop μ-loop
-cast-refuse c =
-    let turn = c .before .before in
-    omega (arith, entered turn .loop-test .taken, start turn .pre .2)
+sub-empty : tie.Need-sub-empty Inv-loop μ-loop
+sub-empty c = c .before .before .loop .inv .0 .within
 
-refuse-requires : tie.Need-refuse-requires Inv-loop μ-loop
-refuse-requires c κs = search needs
+empty-requires : tie.Need-empty-requires Inv-loop μ-loop
+empty-requires c κs = search needs
 
-returns : tie.Need-returns Inv-loop μ-loop
-returns c =
-    let turn = c .before .before .before in
-    let inv = head turn .loop .inv in
-    let stand = empties-more (entered turn .loop-test .taken) (start turn .pre .0) (inv .0) (turn .before .past-empty .ensures) in
-    let cut = tag-cut _ _ (start turn .pre .0) (turn .byte .ensures .0) refl refl (stand .within) (omega (arith, c .before .if2 .taken)) in
-    rw (c .refuse .ensures) (passed-none stand (entered turn .loop-test .taken) (cut .0) (cut .1))
+add-past-empty : tie.Need-add-past-empty Inv-loop μ-loop
+add-past-empty c = omega (arith, c .before .before .before .before .loop .inv .0 .within, c .before .before .before .before .before .before .pre .0)
+
+past-empty-requires : tie.Need-past-empty-requires Inv-loop μ-loop
+past-empty-requires c κs = (c .before .before .before .before .before .before .pre .0, omega (arith, c .before .empty .ensures (c .if1 .taken) .2))
+
+loop-less : tie.Need-loop-less Inv-loop μ-loop
+loop-less c =
+    let past = c .past-empty .ensures in
+    omega (arith, past .up, past .within)
+
+loop-again : tie.Need-loop-again Inv-loop μ-loop
+loop-again c =
+    let inv = c .before .before .before .before .before .loop .inv in
+    let some = c .before .before .before .before .loop-test .taken in
+    (empties-from some (c .before .before .before .before .before .before .before .pre .0) (inv .0) (c .before .before .before .byte .ensures .0) (c .before .before .empty .ensures (c .before .if1 .taken)) (c .past-empty .ensures), inv .1)
+
+light-requires : tie.Need-light-requires Inv-loop μ-loop
+light-requires c κs = search needs
 
 add-at : tie.Need-add-at Inv-loop μ-loop
 add-at c =
-    let turn = c .before .before in
-    omega (arith, turn .before .past-empty .ensures .within, start turn .pre .0)
+    let turn = c .before .before .before .before in
+    omega (arith, head turn .loop .inv .0 .within, start turn .pre .0)
 
 bits-requires : tie.Need-bits-requires Inv-loop μ-loop
 bits-requires c κs = search needs
@@ -84,114 +91,110 @@ least-requires c κs = search needs
 add-done : tie.Need-add-done Inv-loop μ-loop
 add-done c = omega (arith, c .least .ensures)
 
-loop-less : tie.Need-loop-less Inv-loop μ-loop
-loop-less c = omega (arith, c .before .before .if2 .left)
+loop-less-2 : tie.Need-loop-less-2 Inv-loop μ-loop
+loop-less-2 c = omega (arith, byte-inside _ _ (c .before .before .before .before .before .before .before .before .before .before .pre .0) (c .before .before .before .before .before .before .before .before .loop .inv .0 .within) (c .before .before .before .before .before .before .byte .ensures .0) (c .before .before .before .light .ensures (c .before .before .if2 .taken) .0))
 
-loop-again : tie.Need-loop-again Inv-loop μ-loop
-loop-again c =
-    let turn = c .before .before .before .before in
+loop-again-2 : tie.Need-loop-again-2 Inv-loop μ-loop
+loop-again-2 c =
+    let turn = c .before .before .before .before .before .before in
     let inv = head turn .loop .inv in
-    let stand = empties-more (entered turn .loop-test .taken) (start turn .pre .0) (inv .0) (turn .before .past-empty .ensures) in
     let some = entered turn .loop-test .taken in
-    let low = c .before .before .before .if1 .taken in
-    let inside = c .before .before .if2 .left in (
-      none-more stand some (start turn .pre .0) (turn .byte .ensures .0) low (omega (arith, inside)) (c .before .bits .ensures) (c .least .ensures),
-      known-on _ (inv .1) some,
-    )
+    let byte = turn .byte .ensures .0 in
+    let light = c .before .before .before .light .ensures (c .before .before .if2 .taken) in
+    let inside = byte-inside _ _ (start turn .pre .0) (inv .0 .within) byte (light .0) in
+    (none-more (inv .0) some (start turn .pre .0) byte (light .1) inside (c .before .bits .ensures) (c .least .ensures), known-on _ (inv .1) some)
 
 sub-again : tie.Need-sub-again Inv-loop μ-loop
 sub-again c = search needs
 
 sub-again-2 : tie.Need-sub-again-2 Inv-loop μ-loop
-sub-again-2 c = c .before .before .past-empty .ensures .within
+sub-again-2 c = c .before .before .before .before .before .before .loop .inv .0 .within
 
 again-requires : tie.Need-again-requires Inv-loop μ-loop
-again-requires c κs = let known = head (c .before) .loop .inv .1 in (known .small, known .narrow, omega arith)
+again-requires c κs = let known = head (c .before .before .before .before) .loop .inv .1 in (known .small, known .narrow, omega arith)
 
 mul-past-same : tie.Need-mul-past-same Inv-loop μ-loop
 mul-past-same c =
-    let loop = head (c .before .before .before) .loop in
+    let loop = head (c .before .before .before .before .before .before) .loop in
     omega (arith, small-product (loop .size) (loop .wide) (loop .inv .1 .small) (loop .inv .1 .narrow))
 
 add-past-same : tie.Need-add-past-same Inv-loop μ-loop
 add-past-same c =
-    let loop = head (c .before .before .before) .loop in
+    let loop = head (c .before .before .before .before .before .before) .loop in
     omega (arith, small-product (loop .size) (loop .wide) (loop .inv .1 .small) (loop .inv .1 .narrow))
 
 add-past-same-2 : tie.Need-add-past-same-2 Inv-loop μ-loop
 add-past-same-2 c =
-    let turn = c .before .before .before in
+    let turn = c .before .before .before .before .before .before in
     let again = c .before .again .ensures (c .if3 .taken) in
-    omega (arith, again .3, turn .before .past-empty .ensures .within, start turn .pre .0)
+    omega (arith, again .3, head turn .loop .inv .0 .within, start turn .pre .0)
 
 add-past-same-3 : tie.Need-add-past-same-3 Inv-loop μ-loop
 add-past-same-3 c =
     let again = c .before .again .ensures (c .if3 .taken) in
-    omega (arith, again .2, start (c .before .before .before) .pre .2)
+    omega (arith, again .2, start (c .before .before .before .before .before .before) .pre .2)
 
 past-same-requires : tie.Need-past-same-requires Inv-loop μ-loop
 past-same-requires c κs =
-    let turn = c .before .before .before in
+    let turn = c .before .before .before .before .before .before in
     let pre = start turn .pre in
     let some = entered turn .loop-test .taken in
     let again = c .before .again .ensures (c .if3 .taken) in (
       pre .0,
-      omega (arith, again .3, turn .before .past-empty .ensures .within),
+      omega (arith, again .3, head turn .loop .inv .0 .within),
       omega (arith, again .2, some),
       pre .2,
       rw (again .0) (known-on _ (head turn .loop .inv .1) some),
     )
 
-loop-less-2 : tie.Need-loop-less-2 Inv-loop μ-loop
-loop-less-2 c =
-    let turn = c .before .before .before .before in
+loop-less-3 : tie.Need-loop-less-3 Inv-loop μ-loop
+loop-less-3 c =
+    let turn = c .before .before .before .before .before .before .before in
     let again = c .before .before .again .ensures (c .before .if3 .taken) in
-    omega (arith, again .3, turn .before .past-empty .ensures .up, c .past-same .ensures .up, c .past-same .ensures .within)
+    omega (arith, again .3, c .past-same .ensures .up, c .past-same .ensures .within)
 
-loop-again-2 : tie.Need-loop-again-2 Inv-loop μ-loop
-loop-again-2 c =
-    let turn = c .before .before .before .before in
+loop-again-3 : tie.Need-loop-again-3 Inv-loop μ-loop
+loop-again-3 c =
+    let turn = c .before .before .before .before .before .before .before in
     let inv = head turn .loop .inv in
     let some = entered turn .loop-test .taken in
-    let stand = empties-more some (start turn .pre .0) (inv .0) (turn .before .past-empty .ensures) in
     let again = c .before .before .again .ensures (c .before .if3 .taken) in
-    (c .past-same .ensures .on _ (again-more stand some (start turn .pre .0) (inv .1) (turn .byte .ensures .0) 0 again), known-on _ (inv .1) some)
+    (c .past-same .ensures .on _ (again-more (inv .0) some (start turn .pre .0) (inv .1) (turn .byte .ensures .0) 0 again), known-on _ (inv .1) some)
 
 add-first : tie.Need-add-first Inv-loop μ-loop
 add-first c =
-    let turn = c .before .before .before in
-    omega (arith, turn .before .past-empty .ensures .within, start turn .pre .0)
+    let turn = c .before .before .before .before .before .before in
+    omega (arith, head turn .loop .inv .0 .within, start turn .pre .0)
 
 bits-requires-2 : tie.Need-bits-requires-2 Inv-loop μ-loop
 bits-requires-2 c κs = search needs
 
 add-first-2 : tie.Need-add-first-2 Inv-loop μ-loop
 add-first-2 c =
-    let turn = c .before .before .before .before in
+    let turn = c .before .before .before .before .before .before .before in
     let high = field-lt 1 7 1 (turn .byte .result) (omega arith) in
-    omega (arith, turn .before .past-empty .ensures .within, start turn .pre .0, c .bits2 .ensures, high)
+    omega (arith, head turn .loop .inv .0 .within, start turn .pre .0, c .bits2 .ensures, high)
 
-cast-refuse-2 : tie.Need-cast-refuse-2 Inv-loop μ-loop
-cast-refuse-2 c =
-    let turn = c .before .before .before .before .before in
+cast-refuse : tie.Need-cast-refuse Inv-loop μ-loop
+cast-refuse c =
+    let turn = c .before .before .before .before .before .before .before .before in
     omega (arith, entered turn .loop-test .taken, start turn .pre .2)
 
-refuse-requires-2 : tie.Need-refuse-requires-2 Inv-loop μ-loop
-refuse-requires-2 c κs = search needs
+refuse-requires : tie.Need-refuse-requires Inv-loop μ-loop
+refuse-requires c κs = search needs
 
-returns-2 : tie.Need-returns-2 Inv-loop μ-loop
-returns-2 c =
-    let turn = c .before .before .before .before .before .before in
+returns : tie.Need-returns Inv-loop μ-loop
+returns c =
+    let turn = c .before .before .before .before .before .before .before .before .before in
     let inv = head turn .loop .inv in
-    let stand = empties-more (entered turn .loop-test .taken) (start turn .pre .0) (inv .0) (turn .before .past-empty .ensures) in
     let high = c .before .before .bits2 .ensures in
-    let cut = tag-cut _ _ (start turn .pre .0) (turn .byte .ensures .0) refl high (stand .within) (c .before .if4 .taken) in
-    rw (c .refuse2 .ensures) (passed-none stand (entered turn .loop-test .taken) (cut .0) (cut .1))
+    let cut = tag-cut _ _ (start turn .pre .0) (turn .byte .ensures .0) refl high (inv .0 .within) (c .before .if4 .taken) in
+    rw (c .refuse .ensures) (passed-none (inv .0) (entered turn .loop-test .taken) (cut .0) (cut .1))
 
 add-byte : tie.Need-add-byte Inv-loop μ-loop
 add-byte c =
-    let turn = c .before .before .before .before .before in
-    omega (arith, turn .before .past-empty .ensures .within, start turn .pre .0)
+    let turn = c .before .before .before .before .before .before .before .before in
+    omega (arith, head turn .loop .inv .0 .within, start turn .pre .0)
 
 byte-requires-2 : tie.Need-byte-requires-2 Inv-loop μ-loop
 byte-requires-2 c κs = search needs
@@ -225,20 +228,19 @@ add-refuse c =
     let few = c .before .before .least2 in
     omega (arith, quotient (few .result) _ _ (c .if5 .taken), few .ensures)
 
-cast-refuse-3 : tie.Need-cast-refuse-3 Inv-loop μ-loop
-cast-refuse-3 c =
+cast-refuse-2 : tie.Need-cast-refuse-2 Inv-loop μ-loop
+cast-refuse-2 c =
     let few = c .before .before .least2 in
     omega (arith, quotient (few .result) _ _ (c .if5 .taken), few .ensures, start (run-turn (c .before)) .pre .2)
 
-refuse-requires-3 : tie.Need-refuse-requires-3 Inv-loop μ-loop
-refuse-requires-3 c κs = search needs
+refuse-requires-2 : tie.Need-refuse-requires-2 Inv-loop μ-loop
+refuse-requires-2 c κs = search needs
 
-returns-3 : tie.Need-returns-3 Inv-loop μ-loop
-returns-3 c =
+returns-2 : tie.Need-returns-2 Inv-loop μ-loop
+returns-2 c =
     let run = c .before .before in
     let turn = run-turn run in
     let inv = head turn .loop .inv in
-    let stand = empties-more (entered turn .loop-test .taken) (start turn .pre .0) (inv .0) (turn .before .past-empty .ensures) in
     let pre = start turn .pre in
     let some = entered turn .loop-test .taken in
     let high = run .before .before .before .before .before .bits2 .ensures in
@@ -247,7 +249,7 @@ returns-3 c =
     let there = tag-there _ _ (pre .0) (turn .byte .ensures .0) refl high second len (run .before .before .before .before .if4 .left) in
     let few = run .before .least2 .ensures in
     let wide = run .width-of .ensures in
-    rw (c .refuse3 .ensures, wide) (passed-cut stand some (pre .0) there _ few (rw (← wide) (c .before .if5 .taken)))
+    rw (c .refuse2 .ensures, wide) (passed-cut (inv .0) some (pre .0) there _ few (rw (← wide) (c .before .if5 .taken)))
 
 mul-at : tie.Need-mul-at Inv-loop μ-loop
 mul-at c =
@@ -262,15 +264,14 @@ add-at-2 c = omega (arith, c .if5 .left, c .before .before .before .before .befo
 add-done-2 : tie.Need-add-done-2 Inv-loop μ-loop
 add-done-2 c = omega (arith, c .before .before .least2 .ensures)
 
-loop-less-3 : tie.Need-loop-less-3 Inv-loop μ-loop
-loop-less-3 c = omega (arith, c .if5 .left, c .before .before .before .before .before .if4 .left)
+loop-less-4 : tie.Need-loop-less-4 Inv-loop μ-loop
+loop-less-4 c = omega (arith, c .if5 .left, c .before .before .before .before .before .if4 .left)
 
-loop-again-3 : tie.Need-loop-again-3 Inv-loop μ-loop
-loop-again-3 c =
+loop-again-4 : tie.Need-loop-again-4 Inv-loop μ-loop
+loop-again-4 c =
     let run = c .before in
     let turn = run-turn run in
     let inv = head turn .loop .inv in
-    let stand = empties-more (entered turn .loop-test .taken) (start turn .pre .0) (inv .0) (turn .before .past-empty .ensures) in
     let pre = start turn .pre in
     let some = entered turn .loop-test .taken in
     let high = run .before .before .before .before .before .bits2 .ensures in
@@ -279,16 +280,16 @@ loop-again-3 c =
     let there = tag-there _ _ (pre .0) (turn .byte .ensures .0) refl high second len (run .before .before .before .before .if4 .left) in
     let few = run .before .least2 .ensures in
     let wide = run .width-of .ensures in
-    (rw wide (passed-more stand some (pre .0) there _ few (rw (← wide) (c .if5 .left))), known-next _ _ some (pre .2) len few wide)
+    (rw wide (passed-more (inv .0) some (pre .0) there _ few (rw (← wide) (c .if5 .left))), known-next _ _ some (pre .2) len few wide)
 
-sub-t43 : tie.Need-sub-t43 Inv-loop μ-loop
-sub-t43 c = c .before .loop .inv .0 .up
+sub-t45 : tie.Need-sub-t45 Inv-loop μ-loop
+sub-t45 c = c .before .loop .inv .0 .up
 
-cast-t44 : tie.Need-cast-t44 Inv-loop μ-loop
-cast-t44 c = omega (arith, c .before .loop .inv .0 .within, c .before .before .before .pre .0)
+cast-t46 : tie.Need-cast-t46 Inv-loop μ-loop
+cast-t46 c = omega (arith, c .before .loop .inv .0 .within, c .before .before .before .pre .0)
 
-returns-4 : tie.Need-returns-4 Inv-loop μ-loop
-returns-4 c = passed-all (c .before .loop .inv .0) (omega (arith, c .before .loop .inv .0 .below, c .loop-test .left))
+returns-3 : tie.Need-returns-3 Inv-loop μ-loop
+returns-3 c = passed-all (c .before .loop .inv .0) (omega (arith, c .before .loop .inv .0 .below, c .loop-test .left))
 
 pub check-spec : {M : Type 1} → statement M
 check-spec =
@@ -297,18 +298,21 @@ check-spec =
     Inv-loop
     μ-loop
     loop-holds
-    past-empty-requires
     byte-requires
-    cast-refuse
-    refuse-requires
-    returns
+    sub-empty
+    empty-requires
+    add-past-empty
+    past-empty-requires
+    loop-less
+    loop-again
+    light-requires
     add-at
     bits-requires
     sub-least
     least-requires
     add-done
-    loop-less
-    loop-again
+    loop-less-2
+    loop-again-2
     sub-again
     sub-again-2
     again-requires
@@ -317,14 +321,14 @@ check-spec =
     add-past-same-2
     add-past-same-3
     past-same-requires
-    loop-less-2
-    loop-again-2
+    loop-less-3
+    loop-again-3
     add-first
     bits-requires-2
     add-first-2
-    cast-refuse-2
-    refuse-requires-2
-    returns-2
+    cast-refuse
+    refuse-requires
+    returns
     add-byte
     byte-requires-2
     length-of-requires
@@ -335,14 +339,14 @@ check-spec =
     mul-if5
     div-refuse
     add-refuse
-    cast-refuse-3
-    refuse-requires-3
-    returns-3
+    cast-refuse-2
+    refuse-requires-2
+    returns-2
     mul-at
     add-at-2
     add-done-2
-    loop-less-3
-    loop-again-3
-    sub-t43
-    cast-t44
-    returns-4)
+    loop-less-4
+    loop-again-4
+    sub-t45
+    cast-t46
+    returns-3)

@@ -11,7 +11,7 @@ use Rattle.hbc_buffer_literal.proofs.Laws.{width-most}
 use Rattle.hbc_buffer.specs.Series.{kindAt, payloadAt}
 use Rattle.hbc_buffer.proofs.Fills.{filled-room, small-product}
 use Rattle.hbc_buffer.proofs.Passes.{passed-first, passed-more, whole-tag, whole-there, whole-room, within-tag, kinds-more, payloads-more, turn-within, turn-on, known-first, known-next, known-on, none-more, none-kinds, none-payloads}
-use Rattle.hbc_buffer.proofs.Going.{empties-more}
+use Rattle.hbc_buffer.proofs.Going.{empties-from}
 use Rattle.hbc_buffer.specs.Private.{Passed, Known}
 use borrow.Author.Needs.{needs}
 use Rattle.hbc_buffer.proofs.write.Statement.{statement}
@@ -34,20 +34,20 @@ abbrev Turn : Type 0
 Turn = tie.After-bits Inv-loop μ-loop
 
 abbrev entered : Turn → tie.In-loop Inv-loop μ-loop
-entered c = c .before .before .before
+entered c = c .before .before
 
 abbrev head : Turn → tie.At-loop Inv-loop μ-loop
-head c = c .before .before .before .before
+head c = c .before .before .before
 
 abbrev start : Turn → tie.Start Inv-loop μ-loop
-start c = c .before .before .before .before .before .before .before .before
+start c = c .before .before .before .before .before .before .before
 
 -- the turn of each arm, from the arm's end, and of the third from where its run is made out
 abbrev none-turn : tie.After-slice-known4 Inv-loop μ-loop → Turn
-none-turn c = c .before .before .before .before .before .before .before .before .before .before .before
+none-turn c = c .before .before .before .before .before .before .before .before .before .before .before .before .before .before
 
 abbrev run-turn : tie.After-width-of Inv-loop μ-loop → Turn
-run-turn c = c .before .before .before .before .before .before .before .before
+run-turn c = c .before .before .before .before .before .before .before .before .before .before .before
 
 abbrev made-out : tie.After-slice-known8 Inv-loop μ-loop → tie.After-width-of Inv-loop μ-loop
 made-out c = c .before .before .before .before .before .before .before
@@ -58,14 +58,37 @@ loop-holds : tie.Need-loop-holds Inv-loop μ-loop
 unfolding filled
 loop-holds c = (passed-first _ _ _ (c .before .before .before .pre .1), known-first _, refl, refl)
 
-past-empty-requires : tie.Need-past-empty-requires Inv-loop μ-loop
-past-empty-requires c κs = (c .before .before .before .before .before .pre .0, c .before .loop .inv .0 .within)
-
 byte-requires : tie.Need-byte-requires Inv-loop μ-loop
 byte-requires c κs = search needs
 
 bits-requires : tie.Need-bits-requires Inv-loop μ-loop
 bits-requires c κs = search needs
+
+sub-empty : tie.Need-sub-empty Inv-loop μ-loop
+sub-empty c = c .before .before .before .loop .inv .0 .within
+
+empty-requires : tie.Need-empty-requires Inv-loop μ-loop
+empty-requires c κs = search needs
+
+add-past-empty : tie.Need-add-past-empty Inv-loop μ-loop
+add-past-empty c = omega (arith, c .before .before .before .before .before .loop .inv .0 .within, c .before .before .before .before .before .before .before .before .before .pre .0)
+
+past-empty-requires : tie.Need-past-empty-requires Inv-loop μ-loop
+past-empty-requires c κs = (c .before .before .before .before .before .before .before .before .before .pre .0, omega (arith, c .before .empty .ensures (c .if1 .taken) .2))
+
+loop-less : tie.Need-loop-less Inv-loop μ-loop
+loop-less c =
+    let past = c .past-empty .ensures in
+    omega (arith, past .up, past .within)
+
+loop-again : tie.Need-loop-again Inv-loop μ-loop
+loop-again c =
+    let inv = c .before .before .before .before .before .before .loop .inv in
+    let some = c .before .before .before .before .before .loop-test .taken in
+    (empties-from some (c .before .before .before .before .before .before .before .before .before .before .pre .0) (inv .0) (c .before .before .before .before .byte .ensures .0) (c .before .before .empty .ensures (c .before .if1 .taken)) (c .past-empty .ensures), inv .1, inv .2, inv .3)
+
+light-requires : tie.Need-light-requires Inv-loop μ-loop
+light-requires c κs = search needs
 
 bits-requires-2 : tie.Need-bits-requires-2 Inv-loop μ-loop
 bits-requires-2 c κs = search needs
@@ -81,7 +104,7 @@ kind-requires c κs = search needs
 
 fill-none-requires : tie.Need-fill-none-requires Inv-loop μ-loop
 fill-none-requires c κs =
-    let turn = c .before .before .before .before .before .before in
+    let turn = c .before .before .before .before .before .before .before .before .before in
     let loop = head turn .loop in
     let pre = start turn .pre in
     let few = c .before .before .before .least .ensures in
@@ -91,55 +114,51 @@ fill-none-requires c κs =
 add-at : tie.Need-add-at Inv-loop μ-loop
 add-at c =
     let turn = none-turn c in
-    omega (arith, turn .before .before .past-empty .ensures .within, start turn .pre .0)
+    omega (arith, head turn .loop .inv .0 .within, start turn .pre .0)
 
 add-done : tie.Need-add-done Inv-loop μ-loop
 add-done c = omega (arith, c .before .before .before .before .before .before .before .before .least .ensures)
 
-loop-less : tie.Need-loop-less Inv-loop μ-loop
-loop-less c =
+loop-less-2 : tie.Need-loop-less-2 Inv-loop μ-loop
+loop-less-2 c =
     let turn = none-turn c in
     let pre = start turn .pre in
-    let some = entered turn .loop-test .taken in
-    let past = turn .before .before .past-empty .ensures in
-    let stand = empties-more some (pre .0) (head turn .loop .inv .0) past in
-    omega (arith, past .up, whole-tag stand some (pre .0) (turn .before .byte .ensures .0) refl (pre .5))
+    omega (arith, whole-tag (head turn .loop .inv .0) (entered turn .loop-test .taken) (pre .0) (turn .before .byte .ensures .0) refl (pre .5))
 
-loop-again : tie.Need-loop-again Inv-loop μ-loop
-loop-again c =
+loop-again-2 : tie.Need-loop-again-2 Inv-loop μ-loop
+loop-again-2 c =
     let turn = none-turn c in
     let inv = head turn .loop .inv in
-    let stand = empties-more (entered turn .loop-test .taken) (start turn .pre .0) (inv .0) (turn .before .before .past-empty .ensures) in
     let pre = start turn .pre in
     let some = entered turn .loop-test .taken in
     let byte = turn .before .byte .ensures .0 in
-    let low = c .before .before .before .before .before .before .before .before .before .before .if1 .taken in
+    let low = c .before .before .before .before .before .before .before .before .before .before .before .light .ensures (c .before .before .before .before .before .before .before .before .before .before .if2 .taken) .1 in
     let len = c .before .before .before .before .before .before .before .before .before .bits2 .ensures in
     let few = c .before .before .before .before .before .before .before .before .least .ensures in
     let filled = c .before .before .before .before .fill-none .ensures in
-    let here = within-tag _ _ (whole-tag stand some (pre .0) byte refl (pre .5)) in (
-      none-more stand some (pre .0) byte low here len few,
+    let here = within-tag _ _ (whole-tag (inv .0) some (pre .0) byte refl (pre .5)) in (
+      none-more (inv .0) some (pre .0) byte low here len few,
       known-on _ (inv .1) some,
-      filled .0 ∙ none-kinds stand some (pre .0) byte low here len few _ (turn .bits .ensures) (c .before .before .before .before .before .kind .ensures) (inv .2),
-      filled .1 ∙ none-payloads stand some (pre .0) byte low here len few _ (inv .3),
+      filled .0 ∙ none-kinds (inv .0) some (pre .0) byte low here len few _ (turn .bits .ensures) (c .before .before .before .before .before .kind .ensures) (inv .2),
+      filled .1 ∙ none-payloads (inv .0) some (pre .0) byte low here len few _ (inv .3),
     )
 
 sub-again : tie.Need-sub-again Inv-loop μ-loop
 sub-again c = search needs
 
 sub-again-2 : tie.Need-sub-again-2 Inv-loop μ-loop
-sub-again-2 c = c .before .before .before .past-empty .ensures .within
+sub-again-2 c = c .before .before .before .before .before .before .before .loop .inv .0 .within
 
 again-requires : tie.Need-again-requires Inv-loop μ-loop
-again-requires c κs = let known = head (c .before) .loop .inv .1 in (known .small, known .narrow, omega arith)
+again-requires c κs = let known = head (c .before .before .before .before) .loop .inv .1 in (known .small, known .narrow, omega arith)
 
 repeat-requires : tie.Need-repeat-requires Inv-loop μ-loop
 repeat-requires c κs =
-    let turn = c .before .before .before .before .before in
+    let turn = c .before .before .before .before .before .before .before .before in
     let inv = head turn .loop .inv in
     let pre = start turn .pre in
     let some = entered turn .loop-test .taken in
-    let again = c .before .before .before .again .ensures (c .before .before .if2 .taken) in (
+    let again = c .before .before .before .again .ensures (c .before .before .if3 .taken) in (
       pre .0,
       some,
       pre .2,
@@ -152,39 +171,37 @@ repeat-requires c κs =
       again .3,
     )
 
-loop-less-2 : tie.Need-loop-less-2 Inv-loop μ-loop
-loop-less-2 c =
-    let past = c .before .before .before .before .before .before .before .before .before .before .before .before .past-empty .ensures in
+loop-less-3 : tie.Need-loop-less-3 Inv-loop μ-loop
+loop-less-3 c =
     let repeat = c .before .before .before .before .repeat .ensures in
-    omega (arith, past .up, repeat .0, repeat .1 .within)
+    omega (arith, repeat .0, repeat .1 .within)
 
-loop-again-2 : tie.Need-loop-again-2 Inv-loop μ-loop
-loop-again-2 c =
-    let turn = c .before .before .before .before .before .before .before .before .before .before in
+loop-again-3 : tie.Need-loop-again-3 Inv-loop μ-loop
+loop-again-3 c =
+    let turn = c .before .before .before .before .before .before .before .before .before .before .before .before .before in
     let inv = head turn .loop .inv in
     let some = entered turn .loop-test .taken in
-    let stand = empties-more some (start turn .pre .0) (inv .0) (turn .before .before .past-empty .ensures) in
     let repeat = c .before .before .before .before .repeat .ensures in
-    (repeat .1 .on _ stand, known-on _ (inv .1) some, repeat .2 .on _ _ stand (inv .2), repeat .3 .on _ _ stand (inv .3))
+    (repeat .1 .on _ (inv .0), known-on _ (inv .1) some, repeat .2 .on _ _ (inv .0) (inv .2), repeat .3 .on _ _ (inv .0) (inv .3))
 
 add-first : tie.Need-add-first Inv-loop μ-loop
 add-first c =
-    let turn = c .before .before .before in
-    omega (arith, turn .before .before .past-empty .ensures .within, start turn .pre .0)
+    let turn = c .before .before .before .before .before .before in
+    omega (arith, head turn .loop .inv .0 .within, start turn .pre .0)
 
 bits-requires-3 : tie.Need-bits-requires-3 Inv-loop μ-loop
 bits-requires-3 c κs = search needs
 
 add-first-2 : tie.Need-add-first-2 Inv-loop μ-loop
 add-first-2 c =
-    let turn = c .before .before .before .before in
+    let turn = c .before .before .before .before .before .before .before in
     let high = field-lt 1 7 1 (turn .before .byte .result) (omega arith) in
-    omega (arith, turn .before .before .past-empty .ensures .within, start turn .pre .0, c .bits3 .ensures, high)
+    omega (arith, head turn .loop .inv .0 .within, start turn .pre .0, c .bits3 .ensures, high)
 
 add-byte : tie.Need-add-byte Inv-loop μ-loop
 add-byte c =
-    let turn = c .before .before .before .before in
-    omega (arith, turn .before .before .past-empty .ensures .within, start turn .pre .0)
+    let turn = c .before .before .before .before .before .before .before in
+    omega (arith, head turn .loop .inv .0 .within, start turn .pre .0)
 
 byte-requires-2 : tie.Need-byte-requires-2 Inv-loop μ-loop
 byte-requires-2 c κs = search needs
@@ -206,17 +223,16 @@ fill-requires c κs =
     let run = c .before .before in
     let turn = run-turn run in
     let inv = head turn .loop .inv in
-    let stand = empties-more (entered turn .loop-test .taken) (start turn .pre .0) (inv .0) (turn .before .before .past-empty .ensures) in
     let pre = start turn .pre in
     let some = entered turn .loop-test .taken in
     let tag = turn .bits .ensures in
     let high = run .before .before .before .before .bits3 .ensures in
     let second = run .before .before .before .byte2 .ensures .0 in
     let len = run .before .before .length-of .ensures in
-    let there = whole-there stand some (pre .0) (turn .before .byte .ensures .0) tag high second len (pre .5) in
+    let there = whole-there (inv .0) some (pre .0) (turn .before .byte .ensures .0) tag high second len (pre .5) in
     let few = run .before .least2 .ensures in
-    let room = whole-room stand some (pre .0) there _ few (pre .5) in
-    let within = turn-within stand some (pre .0) there _ few in (
+    let room = whole-room (inv .0) some (pre .0) there _ few (pre .5) in
+    let within = turn-within (inv .0) some (pre .0) there _ few in (
       pre .0,
       omega (arith, room, within),
       run .width-of .ensures ∙ ap widthOf (sym tag),
@@ -236,17 +252,16 @@ add-at-2 c =
     let run = made-out c in
     let turn = run-turn run in
     let inv = head turn .loop .inv in
-    let stand = empties-more (entered turn .loop-test .taken) (start turn .pre .0) (inv .0) (turn .before .before .past-empty .ensures) in
     let pre = start turn .pre in
     let some = entered turn .loop-test .taken in
     let tag = turn .bits .ensures in
     let high = run .before .before .before .before .bits3 .ensures in
     let second = run .before .before .before .byte2 .ensures .0 in
     let len = run .before .before .length-of .ensures in
-    let there = whole-there stand some (pre .0) (turn .before .byte .ensures .0) tag high second len (pre .5) in
+    let there = whole-there (inv .0) some (pre .0) (turn .before .byte .ensures .0) tag high second len (pre .5) in
     let few = run .before .least2 .ensures in
-    let room = whole-room stand some (pre .0) there _ few (pre .5) in
-    let within = turn-within stand some (pre .0) there _ few in
+    let room = whole-room (inv .0) some (pre .0) there _ few (pre .5) in
+    let within = turn-within (inv .0) some (pre .0) there _ few in
     rw (run .width-of .ensures ∙ ap widthOf (sym tag)) (omega (arith, room, within, pre .0))
 
 add-done-2 : tie.Need-add-done-2 Inv-loop μ-loop
@@ -255,45 +270,43 @@ add-done-2 c =
     let turn = run-turn run in
     omega (arith, run .before .least2 .ensures, entered turn .loop-test .taken, start turn .pre .2)
 
-loop-less-3 : tie.Need-loop-less-3 Inv-loop μ-loop
-loop-less-3 c =
+loop-less-4 : tie.Need-loop-less-4 Inv-loop μ-loop
+loop-less-4 c =
     let run = made-out c in
     let turn = run-turn run in
     let inv = head turn .loop .inv in
-    let stand = empties-more (entered turn .loop-test .taken) (start turn .pre .0) (inv .0) (turn .before .before .past-empty .ensures) in
     let pre = start turn .pre in
     let some = entered turn .loop-test .taken in
     let tag = turn .bits .ensures in
     let high = run .before .before .before .before .bits3 .ensures in
     let second = run .before .before .before .byte2 .ensures .0 in
     let len = run .before .before .length-of .ensures in
-    let there = whole-there stand some (pre .0) (turn .before .byte .ensures .0) tag high second len (pre .5) in
+    let there = whole-there (inv .0) some (pre .0) (turn .before .byte .ensures .0) tag high second len (pre .5) in
     let few = run .before .least2 .ensures in
-    let room = whole-room stand some (pre .0) there _ few (pre .5) in
-    let within = turn-within stand some (pre .0) there _ few in
-    let on = turn-on stand some (pre .0) there _ few in
-    rw (run .width-of .ensures ∙ ap widthOf (sym tag)) (omega (arith, room, pre .0, within, on, turn .before .before .past-empty .ensures .up))
+    let room = whole-room (inv .0) some (pre .0) there _ few (pre .5) in
+    let within = turn-within (inv .0) some (pre .0) there _ few in
+    let on = turn-on (inv .0) some (pre .0) there _ few in
+    rw (run .width-of .ensures ∙ ap widthOf (sym tag)) (omega (arith, room, pre .0, within, on))
 
-loop-again-3 : tie.Need-loop-again-3 Inv-loop μ-loop
-loop-again-3 c =
+loop-again-4 : tie.Need-loop-again-4 Inv-loop μ-loop
+loop-again-4 c =
     let run = made-out c in
     let turn = run-turn run in
     let inv = head turn .loop .inv in
-    let stand = empties-more (entered turn .loop-test .taken) (start turn .pre .0) (inv .0) (turn .before .before .past-empty .ensures) in
     let pre = start turn .pre in
     let some = entered turn .loop-test .taken in
     let tag = turn .bits .ensures in
     let high = run .before .before .before .before .bits3 .ensures in
     let second = run .before .before .before .byte2 .ensures .0 in
     let len = run .before .before .length-of .ensures in
-    let there = whole-there stand some (pre .0) (turn .before .byte .ensures .0) tag high second len (pre .5) in
+    let there = whole-there (inv .0) some (pre .0) (turn .before .byte .ensures .0) tag high second len (pre .5) in
     let few = run .before .least2 .ensures in
-    let room = whole-room stand some (pre .0) there _ few (pre .5) in
+    let room = whole-room (inv .0) some (pre .0) there _ few (pre .5) in
     let filled = c .before .before .before .before .fill .ensures in (
-      rw (run .width-of .ensures ∙ ap widthOf (sym tag)) (passed-more stand some (pre .0) there _ few room),
+      rw (run .width-of .ensures ∙ ap widthOf (sym tag)) (passed-more (inv .0) some (pre .0) there _ few room),
       known-next _ _ some (pre .2) len few (run .width-of .ensures),
-      filled .0 ∙ kinds-more stand some (pre .0) there _ few _ room refl (inv .2),
-      filled .1 ∙ payloads-more stand some (pre .0) there _ few _ room (inv .3),
+      filled .0 ∙ kinds-more (inv .0) some (pre .0) there _ few _ room refl (inv .2),
+      filled .1 ∙ payloads-more (inv .0) some (pre .0) there _ few _ room (inv .3),
     )
 
 same-length : tie.Need-same-length Inv-loop μ-loop
@@ -314,9 +327,15 @@ write-spec =
     Inv-loop
     μ-loop
     loop-holds
-    past-empty-requires
     byte-requires
     bits-requires
+    sub-empty
+    empty-requires
+    add-past-empty
+    past-empty-requires
+    loop-less
+    loop-again
+    light-requires
     bits-requires-2
     sub-least
     least-requires
@@ -324,14 +343,14 @@ write-spec =
     fill-none-requires
     add-at
     add-done
-    loop-less
-    loop-again
+    loop-less-2
+    loop-again-2
     sub-again
     sub-again-2
     again-requires
     repeat-requires
-    loop-less-2
-    loop-again-2
+    loop-less-3
+    loop-again-3
     add-first
     bits-requires-3
     add-first-2
@@ -345,8 +364,8 @@ write-spec =
     mul-at
     add-at-2
     add-done-2
-    loop-less-3
-    loop-again-3
+    loop-less-4
+    loop-again-4
     same-length
     same-length-2
     returns)
