@@ -43,9 +43,9 @@ module _ {s : List ℕ} {from count done : ℕ} (some : done < count) (short : l
       next (e .up) (omega arith)
 
   -- the one at hand, and all that follow it
-  pub empties-from : {at next b : ℕ} → Passed s from count done at → b ≡ byteAt s at → (b < 128) × (field 0 4 b ≡ 0) × (0 < length s - at) → Empties s (at + 1) next
+  pub empties-from : {at next b : ℕ} → Passed s from count done at → b ≡ byteAt s at → (b < 128) × (field 0 4 b ≡ 0) → at < length s → Empties s (at + 1) next
       → Passed s from count done next
-  empties-from g first z e = empties-more (empty-more g (rw (← first) (z .0), rw (← first) (z .1)) (omega (arith, z .2))) e
+  empties-from g first z h e = empties-more (empty-more g (rw (← first) z) h) e
 
 -- ---- runs that are the last one again
 

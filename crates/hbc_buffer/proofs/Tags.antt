@@ -73,6 +73,10 @@ module _ (s : List ℕ) (at : ℕ) (short : length s ≤ limit) {b t h : ℕ} (f
 
 -- ---- a tag of one byte
 
+pub nibble-zero : (b : ℕ) → b ≡ 0 → field 0 4 b ≡ 0
+unfolding field
+nibble-zero b e = omega (arith, e)
+
 module _ (s : List ℕ) (at : ℕ) (short : length s ≤ limit) {b : ℕ} (first : b ≡ byteAt s at) (low : b < 128) where
   clear : 0 ≡ field 7 1 b
   clear = field-past 7 7 1 b low (omega arith)

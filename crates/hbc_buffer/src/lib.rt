@@ -3,7 +3,7 @@
 ghost use mathlib.Core.Path.{_≡_};
 ghost use Prim.Native.Nat.{_+_, _-_, _*_, _≤_, _<_, _^_, min};
 ghost use lib.ListN.{length};
-ghost use mathlib.Core.Bool.{true};
+ghost use mathlib.Core.Bool.{true, false};
 ghost use Rattle.hbc_bits.specs.Bits.{leAt, field};
 ghost use Rattle.hbc_io.specs.Outcome.{cursorAt, limit};
 ghost use Rattle.hbc_rows.specs.Rows.{filled};
@@ -89,15 +89,13 @@ fn again(
     false
 }
 
-// Whether a tag byte that is there has no values, whatever its kind: bits 0 to 3 and bit 7 are 0.
-fn empty(b: u64, room: usize) -> bool
-    ensures { λ r. ⌜ (r ≡ true → (b < 128) × (field 0 4 b ≡ 0) × (0 < room)) ⌝ }
+// Whether a tag byte has no values, whatever its kind: bits 0 to 3 and bit 7 are 0. So is what is read past the end.
+fn empty(b: u64) -> bool
+    ensures { λ r. ⌜ (r ≡ true → (b < 128) × (field 0 4 b ≡ 0)) × (r ≡ false → b ≡ 0 → ⊥) ⌝ }
 {
     if bits(b, 0, 4) == 0 {
         if b < 128 {
-            if 0 < room {
-                return true;
-            }
+            return true;
         }
     }
     false
@@ -110,25 +108,13 @@ fn past_empty(s: &[u8], at: usize) -> usize
 {
     let mut p = at;
     while p < s.len() {
-        if empty(byte(s, p), s.len() - p) {
+        if empty(byte(s, p)) {
             p += 1;
         } else {
             return p;
         }
     }
     p
-}
-
-// Whether a tag byte is one of null, true and false, which no bytes follow. It is not 0, which is also what is read past the end.
-fn light(b: u64) -> bool
-    ensures { λ r. ⌜ (r ≡ true → (0 < b) × (b < 48)) ⌝ }
-{
-    if 0 < b {
-        if b < 48 {
-            return true;
-        }
-    }
-    false
 }
 
 // Where a pass stands: a place in the file, and how many values are read.
@@ -175,9 +161,13 @@ fn check(s: &[u8], from: usize, count: usize) -> Series
     let mut wide: usize = 0;
     while done < count {
         let b = byte(s, at);
-        if empty(b, s.len() - at) {
+        if empty(b) {
+            if s.len() <= at {
+                return Series::Refused(refuse(3, done as u32));
+            }
             at = past_empty(s, at + 1);
-        } else if light(b) {
+        } else if b < 48 {
+            // no bytes follow such a tag, whatever its length
             at += 1;
             done += least(bits(b, 0, 4) as usize, count - done);
         } else if again(b, last, size, wide, count - done, s.len() - at, 0) {
@@ -416,6 +406,10 @@ fn write(s: &[u8], from: usize, count: usize, kinds: &mut [u32], payloads: &mut 
     ensures { λ _. ⌜ now (kinds .exit) ≡ filled (kindAt (now (s .entry)) (cursorAt from)) count (now (kinds .entry)) ⌝ }
     ensures { λ _. ⌜ now (payloads .exit) ≡ filled (payloadAt (now (s .entry)) (cursorAt from)) count (now (payloads .entry)) ⌝ }
 {
+    // never so, and said here that no read below asks it again
+    if LIMIT < s.len() {
+        return;
+    }
     let mut at = from;
     let mut done: usize = 0;
     // the last run: its tag byte, length and width
@@ -425,9 +419,10 @@ fn write(s: &[u8], from: usize, count: usize, kinds: &mut [u32], payloads: &mut 
     while done < count {
         let b = byte(s, at);
         let tag = bits(b, 4, 3);
-        if empty(b, s.len() - at) {
+        if empty(b) {
             at = past_empty(s, at + 1);
-        } else if light(b) {
+        } else if b < 48 {
+            // no bytes follow such a tag, whatever its length
             let n = least(bits(b, 0, 4) as usize, count - done);
             fill_none(kinds, payloads, kind(tag), done, n);
             at += 1;

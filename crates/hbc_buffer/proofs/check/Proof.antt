@@ -1,6 +1,7 @@
 use Prim.Native.Nat.{_-_, _<_}
 use mathlib.Core.Path.{refl}
 use native.Mathlib.Omega.{arith}
+use native.Mathlib.Nat.{pos-of-ne-zero}
 use lib.ListN.{length}
 use Rattle.hbc_bits.proofs.Laws.{field-lt}
 use Rattle.hbc_buffer_literal.proofs.Laws.{width-most}
@@ -38,7 +39,7 @@ start c = c .before .before .before .before
 
 -- the turn of the third arm, from where its run is made out
 abbrev run-turn : tie.After-width-of Inv-loop μ-loop → Turn
-run-turn c = c .before .before .before .before .before .before .before .before .before .before .before .before
+run-turn c = c .before .before .before .before .before .before .before .before .before .before .before
 
 -- ---- the answers
 
@@ -48,17 +49,26 @@ loop-holds c = (passed-first _ _ _ (c .before .pre .1), known-first _)
 byte-requires : tie.Need-byte-requires Inv-loop μ-loop
 byte-requires c κs = search needs
 
-sub-empty : tie.Need-sub-empty Inv-loop μ-loop
-sub-empty c = c .before .before .loop .inv .0 .within
-
 empty-requires : tie.Need-empty-requires Inv-loop μ-loop
 empty-requires c κs = search needs
 
+cast-refuse : tie.Need-cast-refuse Inv-loop μ-loop
+cast-refuse c = omega (arith, c .before .before .before .before .loop-test .taken, c .before .before .before .before .before .before .before .pre .2)
+
+refuse-requires : tie.Need-refuse-requires Inv-loop μ-loop
+refuse-requires c κs = search needs
+
+returns : tie.Need-returns Inv-loop μ-loop
+returns c =
+    let inv = c .before .before .before .before .before .before .loop .inv in
+    let cut = tag-cut _ _ (c .before .before .before .before .before .before .before .before .pre .0) (c .before .before .before .before .byte .ensures .0) refl refl (inv .0 .within) (omega (arith, c .before .if2 .taken)) in
+    rw (c .refuse .ensures) (passed-none (inv .0) (c .before .before .before .before .before .loop-test .taken) (cut .0) (cut .1))
+
 add-past-empty : tie.Need-add-past-empty Inv-loop μ-loop
-add-past-empty c = omega (arith, c .before .before .before .before .loop .inv .0 .within, c .before .before .before .before .before .before .pre .0)
+add-past-empty c = omega (arith, c .before .before .before .before .before .loop .inv .0 .within, c .before .before .before .before .before .before .before .pre .0)
 
 past-empty-requires : tie.Need-past-empty-requires Inv-loop μ-loop
-past-empty-requires c κs = (c .before .before .before .before .before .before .pre .0, omega (arith, c .before .empty .ensures (c .if1 .taken) .2))
+past-empty-requires c κs = (c .before .before .before .before .before .before .before .pre .0, omega (arith, c .if2 .left))
 
 loop-less : tie.Need-loop-less Inv-loop μ-loop
 loop-less c =
@@ -67,16 +77,13 @@ loop-less c =
 
 loop-again : tie.Need-loop-again Inv-loop μ-loop
 loop-again c =
-    let inv = c .before .before .before .before .before .loop .inv in
-    let some = c .before .before .before .before .loop-test .taken in
-    (empties-from some (c .before .before .before .before .before .before .before .pre .0) (inv .0) (c .before .before .before .byte .ensures .0) (c .before .before .empty .ensures (c .before .if1 .taken)) (c .past-empty .ensures), inv .1)
-
-light-requires : tie.Need-light-requires Inv-loop μ-loop
-light-requires c κs = search needs
+    let inv = c .before .before .before .before .before .before .loop .inv in
+    let some = c .before .before .before .before .before .loop-test .taken in
+    (empties-from some (c .before .before .before .before .before .before .before .before .pre .0) (inv .0) (c .before .before .before .before .byte .ensures .0) (c .before .before .before .empty .ensures .0 (c .before .before .if1 .taken)) (omega (arith, c .before .if2 .left)) (c .past-empty .ensures), inv .1)
 
 add-at : tie.Need-add-at Inv-loop μ-loop
 add-at c =
-    let turn = c .before .before .before .before in
+    let turn = c .before .before .before in
     omega (arith, head turn .loop .inv .0 .within, start turn .pre .0)
 
 bits-requires : tie.Need-bits-requires Inv-loop μ-loop
@@ -92,54 +99,53 @@ add-done : tie.Need-add-done Inv-loop μ-loop
 add-done c = omega (arith, c .least .ensures)
 
 loop-less-2 : tie.Need-loop-less-2 Inv-loop μ-loop
-loop-less-2 c = omega (arith, byte-inside _ _ (c .before .before .before .before .before .before .before .before .before .before .pre .0) (c .before .before .before .before .before .before .before .before .loop .inv .0 .within) (c .before .before .before .before .before .before .byte .ensures .0) (c .before .before .before .light .ensures (c .before .before .if2 .taken) .0))
+loop-less-2 c = omega (arith, byte-inside _ _ (c .before .before .before .before .before .before .before .before .before .pre .0) (c .before .before .before .before .before .before .before .loop .inv .0 .within) (c .before .before .before .before .before .byte .ensures .0) (pos-of-ne-zero (c .before .before .before .before .empty .ensures .1 (c .before .before .before .if1 .left))))
 
 loop-again-2 : tie.Need-loop-again-2 Inv-loop μ-loop
 loop-again-2 c =
-    let turn = c .before .before .before .before .before .before in
+    let turn = c .before .before .before .before .before in
     let inv = head turn .loop .inv in
     let some = entered turn .loop-test .taken in
     let byte = turn .byte .ensures .0 in
-    let light = c .before .before .before .light .ensures (c .before .before .if2 .taken) in
-    let inside = byte-inside _ _ (start turn .pre .0) (inv .0 .within) byte (light .0) in
-    (none-more (inv .0) some (start turn .pre .0) byte (light .1) inside (c .before .bits .ensures) (c .least .ensures), known-on _ (inv .1) some)
+    let inside = byte-inside _ _ (start turn .pre .0) (inv .0 .within) (byte) (pos-of-ne-zero (c .before .before .before .before .empty .ensures .1 (c .before .before .before .if1 .left))) in
+    (none-more (inv .0) some (start turn .pre .0) byte (c .before .before .if3 .taken) inside (c .before .bits .ensures) (c .least .ensures), known-on _ (inv .1) some)
 
 sub-again : tie.Need-sub-again Inv-loop μ-loop
 sub-again c = search needs
 
 sub-again-2 : tie.Need-sub-again-2 Inv-loop μ-loop
-sub-again-2 c = c .before .before .before .before .before .before .loop .inv .0 .within
+sub-again-2 c = c .before .before .before .before .before .loop .inv .0 .within
 
 again-requires : tie.Need-again-requires Inv-loop μ-loop
-again-requires c κs = let known = head (c .before .before .before .before) .loop .inv .1 in (known .small, known .narrow, omega arith)
+again-requires c κs = let known = head (c .before .before .before) .loop .inv .1 in (known .small, known .narrow, omega arith)
 
 mul-past-same : tie.Need-mul-past-same Inv-loop μ-loop
 mul-past-same c =
-    let loop = head (c .before .before .before .before .before .before) .loop in
+    let loop = head (c .before .before .before .before .before) .loop in
     omega (arith, small-product (loop .size) (loop .wide) (loop .inv .1 .small) (loop .inv .1 .narrow))
 
 add-past-same : tie.Need-add-past-same Inv-loop μ-loop
 add-past-same c =
-    let loop = head (c .before .before .before .before .before .before) .loop in
+    let loop = head (c .before .before .before .before .before) .loop in
     omega (arith, small-product (loop .size) (loop .wide) (loop .inv .1 .small) (loop .inv .1 .narrow))
 
 add-past-same-2 : tie.Need-add-past-same-2 Inv-loop μ-loop
 add-past-same-2 c =
-    let turn = c .before .before .before .before .before .before in
-    let again = c .before .again .ensures (c .if3 .taken) in
+    let turn = c .before .before .before .before .before in
+    let again = c .before .again .ensures (c .if4 .taken) in
     omega (arith, again .3, head turn .loop .inv .0 .within, start turn .pre .0)
 
 add-past-same-3 : tie.Need-add-past-same-3 Inv-loop μ-loop
 add-past-same-3 c =
-    let again = c .before .again .ensures (c .if3 .taken) in
-    omega (arith, again .2, start (c .before .before .before .before .before .before) .pre .2)
+    let again = c .before .again .ensures (c .if4 .taken) in
+    omega (arith, again .2, start (c .before .before .before .before .before) .pre .2)
 
 past-same-requires : tie.Need-past-same-requires Inv-loop μ-loop
 past-same-requires c κs =
-    let turn = c .before .before .before .before .before .before in
+    let turn = c .before .before .before .before .before in
     let pre = start turn .pre in
     let some = entered turn .loop-test .taken in
-    let again = c .before .again .ensures (c .if3 .taken) in (
+    let again = c .before .again .ensures (c .if4 .taken) in (
       pre .0,
       omega (arith, again .3, head turn .loop .inv .0 .within),
       omega (arith, again .2, some),
@@ -149,21 +155,21 @@ past-same-requires c κs =
 
 loop-less-3 : tie.Need-loop-less-3 Inv-loop μ-loop
 loop-less-3 c =
-    let turn = c .before .before .before .before .before .before .before in
-    let again = c .before .before .again .ensures (c .before .if3 .taken) in
+    let turn = c .before .before .before .before .before .before in
+    let again = c .before .before .again .ensures (c .before .if4 .taken) in
     omega (arith, again .3, c .past-same .ensures .up, c .past-same .ensures .within)
 
 loop-again-3 : tie.Need-loop-again-3 Inv-loop μ-loop
 loop-again-3 c =
-    let turn = c .before .before .before .before .before .before .before in
+    let turn = c .before .before .before .before .before .before in
     let inv = head turn .loop .inv in
     let some = entered turn .loop-test .taken in
-    let again = c .before .before .again .ensures (c .before .if3 .taken) in
+    let again = c .before .before .again .ensures (c .before .if4 .taken) in
     (c .past-same .ensures .on _ (again-more (inv .0) some (start turn .pre .0) (inv .1) (turn .byte .ensures .0) 0 again), known-on _ (inv .1) some)
 
 add-first : tie.Need-add-first Inv-loop μ-loop
 add-first c =
-    let turn = c .before .before .before .before .before .before in
+    let turn = c .before .before .before .before .before in
     omega (arith, head turn .loop .inv .0 .within, start turn .pre .0)
 
 bits-requires-2 : tie.Need-bits-requires-2 Inv-loop μ-loop
@@ -171,29 +177,29 @@ bits-requires-2 c κs = search needs
 
 add-first-2 : tie.Need-add-first-2 Inv-loop μ-loop
 add-first-2 c =
-    let turn = c .before .before .before .before .before .before .before in
+    let turn = c .before .before .before .before .before .before in
     let high = field-lt 1 7 1 (turn .byte .result) (omega arith) in
     omega (arith, head turn .loop .inv .0 .within, start turn .pre .0, c .bits2 .ensures, high)
 
-cast-refuse : tie.Need-cast-refuse Inv-loop μ-loop
-cast-refuse c =
-    let turn = c .before .before .before .before .before .before .before .before in
+cast-refuse-2 : tie.Need-cast-refuse-2 Inv-loop μ-loop
+cast-refuse-2 c =
+    let turn = c .before .before .before .before .before .before .before in
     omega (arith, entered turn .loop-test .taken, start turn .pre .2)
 
-refuse-requires : tie.Need-refuse-requires Inv-loop μ-loop
-refuse-requires c κs = search needs
+refuse-requires-2 : tie.Need-refuse-requires-2 Inv-loop μ-loop
+refuse-requires-2 c κs = search needs
 
-returns : tie.Need-returns Inv-loop μ-loop
-returns c =
-    let turn = c .before .before .before .before .before .before .before .before .before in
+returns-2 : tie.Need-returns-2 Inv-loop μ-loop
+returns-2 c =
+    let turn = c .before .before .before .before .before .before .before .before in
     let inv = head turn .loop .inv in
     let high = c .before .before .bits2 .ensures in
-    let cut = tag-cut _ _ (start turn .pre .0) (turn .byte .ensures .0) refl high (inv .0 .within) (c .before .if4 .taken) in
-    rw (c .refuse .ensures) (passed-none (inv .0) (entered turn .loop-test .taken) (cut .0) (cut .1))
+    let cut = tag-cut _ _ (start turn .pre .0) (turn .byte .ensures .0) refl high (inv .0 .within) (c .before .if5 .taken) in
+    rw (c .refuse2 .ensures) (passed-none (inv .0) (entered turn .loop-test .taken) (cut .0) (cut .1))
 
 add-byte : tie.Need-add-byte Inv-loop μ-loop
 add-byte c =
-    let turn = c .before .before .before .before .before .before .before .before in
+    let turn = c .before .before .before .before .before .before .before in
     omega (arith, head turn .loop .inv .0 .within, start turn .pre .0)
 
 byte-requires-2 : tie.Need-byte-requires-2 Inv-loop μ-loop
@@ -212,32 +218,32 @@ width-of-requires : tie.Need-width-of-requires Inv-loop μ-loop
 width-of-requires c κs = search needs
 
 sub-room : tie.Need-sub-room Inv-loop μ-loop
-sub-room c = c .before .before .before .before .if4 .left
+sub-room c = c .before .before .before .before .if5 .left
 
-mul-if5 : tie.Need-mul-if5 Inv-loop μ-loop
-mul-if5 c =
+mul-if6 : tie.Need-mul-if6 Inv-loop μ-loop
+mul-if6 c =
     let few = c .before .least2 in
     let most : few .result < 4294967296 = omega (arith, few .ensures, start (run-turn c) .pre .2) in
     omega (arith, small-product (few .result) (c .width-of .result) most (rw (c .width-of .ensures) (width-most _)))
 
 div-refuse : tie.Need-div-refuse Inv-loop μ-loop
-div-refuse c = positive (c .before .before .least2 .result) _ _ (c .if5 .taken)
+div-refuse c = positive (c .before .before .least2 .result) _ _ (c .if6 .taken)
 
 add-refuse : tie.Need-add-refuse Inv-loop μ-loop
 add-refuse c =
     let few = c .before .before .least2 in
-    omega (arith, quotient (few .result) _ _ (c .if5 .taken), few .ensures)
+    omega (arith, quotient (few .result) _ _ (c .if6 .taken), few .ensures)
 
-cast-refuse-2 : tie.Need-cast-refuse-2 Inv-loop μ-loop
-cast-refuse-2 c =
+cast-refuse-3 : tie.Need-cast-refuse-3 Inv-loop μ-loop
+cast-refuse-3 c =
     let few = c .before .before .least2 in
-    omega (arith, quotient (few .result) _ _ (c .if5 .taken), few .ensures, start (run-turn (c .before)) .pre .2)
+    omega (arith, quotient (few .result) _ _ (c .if6 .taken), few .ensures, start (run-turn (c .before)) .pre .2)
 
-refuse-requires-2 : tie.Need-refuse-requires-2 Inv-loop μ-loop
-refuse-requires-2 c κs = search needs
+refuse-requires-3 : tie.Need-refuse-requires-3 Inv-loop μ-loop
+refuse-requires-3 c κs = search needs
 
-returns-2 : tie.Need-returns-2 Inv-loop μ-loop
-returns-2 c =
+returns-3 : tie.Need-returns-3 Inv-loop μ-loop
+returns-3 c =
     let run = c .before .before in
     let turn = run-turn run in
     let inv = head turn .loop .inv in
@@ -246,10 +252,10 @@ returns-2 c =
     let high = run .before .before .before .before .before .bits2 .ensures in
     let second = run .before .before .before .byte2 .ensures .0 in
     let len = run .before .before .length-of .ensures in
-    let there = tag-there _ _ (pre .0) (turn .byte .ensures .0) refl high second len (run .before .before .before .before .if4 .left) in
+    let there = tag-there _ _ (pre .0) (turn .byte .ensures .0) refl high second len (run .before .before .before .before .if5 .left) in
     let few = run .before .least2 .ensures in
     let wide = run .width-of .ensures in
-    rw (c .refuse2 .ensures, wide) (passed-cut (inv .0) some (pre .0) there _ few (rw (← wide) (c .before .if5 .taken)))
+    rw (c .refuse3 .ensures, wide) (passed-cut (inv .0) some (pre .0) there _ few (rw (← wide) (c .before .if6 .taken)))
 
 mul-at : tie.Need-mul-at Inv-loop μ-loop
 mul-at c =
@@ -259,13 +265,13 @@ mul-at c =
     omega (arith, small-product (few .result) (run .width-of .result) most (rw (run .width-of .ensures) (width-most _)))
 
 add-at-2 : tie.Need-add-at-2 Inv-loop μ-loop
-add-at-2 c = omega (arith, c .if5 .left, c .before .before .before .before .before .if4 .left, start (run-turn (c .before)) .pre .0)
+add-at-2 c = omega (arith, c .if6 .left, c .before .before .before .before .before .if5 .left, start (run-turn (c .before)) .pre .0)
 
 add-done-2 : tie.Need-add-done-2 Inv-loop μ-loop
 add-done-2 c = omega (arith, c .before .before .least2 .ensures)
 
 loop-less-4 : tie.Need-loop-less-4 Inv-loop μ-loop
-loop-less-4 c = omega (arith, c .if5 .left, c .before .before .before .before .before .if4 .left)
+loop-less-4 c = omega (arith, c .if6 .left, c .before .before .before .before .before .if5 .left)
 
 loop-again-4 : tie.Need-loop-again-4 Inv-loop μ-loop
 loop-again-4 c =
@@ -277,19 +283,19 @@ loop-again-4 c =
     let high = run .before .before .before .before .before .bits2 .ensures in
     let second = run .before .before .before .byte2 .ensures .0 in
     let len = run .before .before .length-of .ensures in
-    let there = tag-there _ _ (pre .0) (turn .byte .ensures .0) refl high second len (run .before .before .before .before .if4 .left) in
+    let there = tag-there _ _ (pre .0) (turn .byte .ensures .0) refl high second len (run .before .before .before .before .if5 .left) in
     let few = run .before .least2 .ensures in
     let wide = run .width-of .ensures in
-    (rw wide (passed-more (inv .0) some (pre .0) there _ few (rw (← wide) (c .if5 .left))), known-next _ _ some (pre .2) len few wide)
+    (rw wide (passed-more (inv .0) some (pre .0) there _ few (rw (← wide) (c .if6 .left))), known-next _ _ some (pre .2) len few wide)
 
-sub-t45 : tie.Need-sub-t45 Inv-loop μ-loop
-sub-t45 c = c .before .loop .inv .0 .up
+sub-t46 : tie.Need-sub-t46 Inv-loop μ-loop
+sub-t46 c = c .before .loop .inv .0 .up
 
-cast-t46 : tie.Need-cast-t46 Inv-loop μ-loop
-cast-t46 c = omega (arith, c .before .loop .inv .0 .within, c .before .before .before .pre .0)
+cast-t47 : tie.Need-cast-t47 Inv-loop μ-loop
+cast-t47 c = omega (arith, c .before .loop .inv .0 .within, c .before .before .before .pre .0)
 
-returns-3 : tie.Need-returns-3 Inv-loop μ-loop
-returns-3 c = passed-all (c .before .loop .inv .0) (omega (arith, c .before .loop .inv .0 .below, c .loop-test .left))
+returns-4 : tie.Need-returns-4 Inv-loop μ-loop
+returns-4 c = passed-all (c .before .loop .inv .0) (omega (arith, c .before .loop .inv .0 .below, c .loop-test .left))
 
 pub check-spec : {M : Type 1} → statement M
 check-spec =
@@ -299,13 +305,14 @@ check-spec =
     μ-loop
     loop-holds
     byte-requires
-    sub-empty
     empty-requires
+    cast-refuse
+    refuse-requires
+    returns
     add-past-empty
     past-empty-requires
     loop-less
     loop-again
-    light-requires
     add-at
     bits-requires
     sub-least
@@ -326,9 +333,9 @@ check-spec =
     add-first
     bits-requires-2
     add-first-2
-    cast-refuse
-    refuse-requires
-    returns
+    cast-refuse-2
+    refuse-requires-2
+    returns-2
     add-byte
     byte-requires-2
     length-of-requires
@@ -336,17 +343,17 @@ check-spec =
     least-requires-2
     width-of-requires
     sub-room
-    mul-if5
+    mul-if6
     div-refuse
     add-refuse
-    cast-refuse-2
-    refuse-requires-2
-    returns-2
+    cast-refuse-3
+    refuse-requires-3
+    returns-3
     mul-at
     add-at-2
     add-done-2
     loop-less-4
     loop-again-4
-    sub-t45
-    cast-t46
-    returns-3)
+    sub-t46
+    cast-t47
+    returns-4)

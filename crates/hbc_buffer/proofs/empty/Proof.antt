@@ -1,3 +1,5 @@
+use native.Mathlib.Omega.{arith}
+use Rattle.hbc_buffer.proofs.Tags.{nibble-zero}
 use mathlib.Core.Path.{sym, _∙_}
 use Rattle.hbc_buffer.proofs.Fills.{falsely}
 use borrow.Author.Needs.{needs}
@@ -8,16 +10,13 @@ bits-requires : tie.Need-bits-requires
 bits-requires c κs = search needs
 
 returns : tie.Need-returns
-returns c = λ e. (c .before .if2 .taken, sym (c .before .before .before .bits .ensures) ∙ c .before .before .if1 .taken, c .if3 .taken)
+returns c = (λ e. (c .if2 .taken, sym (c .before .before .bits .ensures) ∙ c .before .if1 .taken), λ e. falsely (sym e))
 
 returns-2 : tie.Need-returns-2
-returns-2 c = λ e. falsely e
+returns-2 c = (λ e. falsely e, λ e z. omega (arith, z, c .if2 .left))
 
 returns-3 : tie.Need-returns-3
-returns-3 c = λ e. falsely e
-
-returns-4 : tie.Need-returns-4
-returns-4 c = λ e. falsely e
+returns-3 c = (λ e. falsely e, λ e z. c .if1 .left (c .before .bits .ensures ∙ nibble-zero _ z))
 
 pub empty-spec : {M : Type 1} → statement M
-empty-spec = tie.close (tie.spec bits-requires returns returns-2 returns-3 returns-4)
+empty-spec = tie.close (tie.spec bits-requires returns returns-2 returns-3)

@@ -19,9 +19,6 @@ loop-holds c = empties-first (c .before .pre .1)
 byte-requires : tie.Need-byte-requires Inv-loop μ-loop
 byte-requires c κs = search needs
 
-sub-empty : tie.Need-sub-empty Inv-loop μ-loop
-sub-empty c = search needs
-
 empty-requires : tie.Need-empty-requires Inv-loop μ-loop
 empty-requires c κs = search needs
 
@@ -32,9 +29,7 @@ loop-less : tie.Need-loop-less Inv-loop μ-loop
 loop-less c = search needs
 
 loop-again : tie.Need-loop-again Inv-loop μ-loop
-loop-again c =
-    let empty = c .before .empty .ensures (c .if1 .taken) in
-    empties-on (c .before .before .before .before .loop .inv) (c .before .before .before .loop-test .taken) (c .before .before .byte .ensures .0) (empty .0, empty .1)
+loop-again c = empties-on (c .before .before .before .before .loop .inv) (c .before .before .before .loop-test .taken) (c .before .before .byte .ensures .0) (c .before .empty .ensures .0 (c .if1 .taken))
 
 returns : tie.Need-returns Inv-loop μ-loop
 returns c = c .before .before .before .before .loop .inv
@@ -50,7 +45,6 @@ past-empty-spec =
     μ-loop
     loop-holds
     byte-requires
-    sub-empty
     empty-requires
     add-p
     loop-less

@@ -40,23 +40,26 @@ abbrev head : Turn → tie.At-loop Inv-loop μ-loop
 head c = c .before .before .before
 
 abbrev start : Turn → tie.Start Inv-loop μ-loop
-start c = c .before .before .before .before .before .before .before
+start c = c .before .before .before .before .before .before .before .before
 
 -- the turn of each arm, from the arm's end, and of the third from where its run is made out
 abbrev none-turn : tie.After-slice-known4 Inv-loop μ-loop → Turn
-none-turn c = c .before .before .before .before .before .before .before .before .before .before .before .before .before .before
+none-turn c = c .before .before .before .before .before .before .before .before .before .before .before .before .before
 
 abbrev run-turn : tie.After-width-of Inv-loop μ-loop → Turn
-run-turn c = c .before .before .before .before .before .before .before .before .before .before .before
+run-turn c = c .before .before .before .before .before .before .before .before .before .before
 
 abbrev made-out : tie.After-slice-known8 Inv-loop μ-loop → tie.After-width-of Inv-loop μ-loop
 made-out c = c .before .before .before .before .before .before .before
 
 -- ---- the answers
 
+returns : tie.Need-returns Inv-loop μ-loop
+returns c = absurd (omega (arith, c .if1 .taken, c .before .before .before .before .pre .0))
+
 loop-holds : tie.Need-loop-holds Inv-loop μ-loop
 unfolding filled
-loop-holds c = (passed-first _ _ _ (c .before .before .before .pre .1), known-first _, refl, refl)
+loop-holds c = (passed-first _ _ _ (c .before .before .before .before .pre .1), known-first _, refl, refl)
 
 byte-requires : tie.Need-byte-requires Inv-loop μ-loop
 byte-requires c κs = search needs
@@ -64,17 +67,15 @@ byte-requires c κs = search needs
 bits-requires : tie.Need-bits-requires Inv-loop μ-loop
 bits-requires c κs = search needs
 
-sub-empty : tie.Need-sub-empty Inv-loop μ-loop
-sub-empty c = c .before .before .before .loop .inv .0 .within
-
 empty-requires : tie.Need-empty-requires Inv-loop μ-loop
 empty-requires c κs = search needs
 
 add-past-empty : tie.Need-add-past-empty Inv-loop μ-loop
-add-past-empty c = omega (arith, c .before .before .before .before .before .loop .inv .0 .within, c .before .before .before .before .before .before .before .before .before .pre .0)
+add-past-empty c = omega (arith, c .before .before .before .before .before .loop .inv .0 .within, c .before .before .before .before .before .before .before .before .before .before .pre .0)
 
 past-empty-requires : tie.Need-past-empty-requires Inv-loop μ-loop
-past-empty-requires c κs = (c .before .before .before .before .before .before .before .before .before .pre .0, omega (arith, c .before .empty .ensures (c .if1 .taken) .2))
+past-empty-requires c κs =
+    (c .before .before .before .before .before .before .before .before .before .before .pre .0, omega (arith, whole-tag (c .before .before .before .before .before .loop .inv .0) (c .before .before .before .before .loop-test .taken) (c .before .before .before .before .before .before .before .before .before .before .pre .0) (c .before .before .before .byte .ensures .0) refl (c .before .before .before .before .before .before .before .before .before .before .pre .5)))
 
 loop-less : tie.Need-loop-less Inv-loop μ-loop
 loop-less c =
@@ -85,10 +86,8 @@ loop-again : tie.Need-loop-again Inv-loop μ-loop
 loop-again c =
     let inv = c .before .before .before .before .before .before .loop .inv in
     let some = c .before .before .before .before .before .loop-test .taken in
-    (empties-from some (c .before .before .before .before .before .before .before .before .before .before .pre .0) (inv .0) (c .before .before .before .before .byte .ensures .0) (c .before .before .empty .ensures (c .before .if1 .taken)) (c .past-empty .ensures), inv .1, inv .2, inv .3)
-
-light-requires : tie.Need-light-requires Inv-loop μ-loop
-light-requires c κs = search needs
+    let inside = within-tag _ _ (whole-tag (c .before .before .before .before .before .before .loop .inv .0) (c .before .before .before .before .before .loop-test .taken) (c .before .before .before .before .before .before .before .before .before .before .before .pre .0) (c .before .before .before .before .byte .ensures .0) refl (c .before .before .before .before .before .before .before .before .before .before .before .pre .5)) in
+    (empties-from some (c .before .before .before .before .before .before .before .before .before .before .before .pre .0) (inv .0) (c .before .before .before .before .byte .ensures .0) (c .before .before .empty .ensures .0 (c .before .if2 .taken)) inside (c .past-empty .ensures), inv .1, inv .2, inv .3)
 
 bits-requires-2 : tie.Need-bits-requires-2 Inv-loop μ-loop
 bits-requires-2 c κs = search needs
@@ -104,7 +103,7 @@ kind-requires c κs = search needs
 
 fill-none-requires : tie.Need-fill-none-requires Inv-loop μ-loop
 fill-none-requires c κs =
-    let turn = c .before .before .before .before .before .before .before .before .before in
+    let turn = c .before .before .before .before .before .before .before .before in
     let loop = head turn .loop in
     let pre = start turn .pre in
     let few = c .before .before .before .least .ensures in
@@ -132,7 +131,7 @@ loop-again-2 c =
     let pre = start turn .pre in
     let some = entered turn .loop-test .taken in
     let byte = turn .before .byte .ensures .0 in
-    let low = c .before .before .before .before .before .before .before .before .before .before .before .light .ensures (c .before .before .before .before .before .before .before .before .before .before .if2 .taken) .1 in
+    let low = c .before .before .before .before .before .before .before .before .before .before .if3 .taken in
     let len = c .before .before .before .before .before .before .before .before .before .bits2 .ensures in
     let few = c .before .before .before .before .before .before .before .before .least .ensures in
     let filled = c .before .before .before .before .fill-none .ensures in
@@ -147,18 +146,18 @@ sub-again : tie.Need-sub-again Inv-loop μ-loop
 sub-again c = search needs
 
 sub-again-2 : tie.Need-sub-again-2 Inv-loop μ-loop
-sub-again-2 c = c .before .before .before .before .before .before .before .loop .inv .0 .within
+sub-again-2 c = c .before .before .before .before .before .before .loop .inv .0 .within
 
 again-requires : tie.Need-again-requires Inv-loop μ-loop
-again-requires c κs = let known = head (c .before .before .before .before) .loop .inv .1 in (known .small, known .narrow, omega arith)
+again-requires c κs = let known = head (c .before .before .before) .loop .inv .1 in (known .small, known .narrow, omega arith)
 
 repeat-requires : tie.Need-repeat-requires Inv-loop μ-loop
 repeat-requires c κs =
-    let turn = c .before .before .before .before .before .before .before .before in
+    let turn = c .before .before .before .before .before .before .before in
     let inv = head turn .loop .inv in
     let pre = start turn .pre in
     let some = entered turn .loop-test .taken in
-    let again = c .before .before .before .again .ensures (c .before .before .if3 .taken) in (
+    let again = c .before .before .before .again .ensures (c .before .before .if4 .taken) in (
       pre .0,
       some,
       pre .2,
@@ -178,7 +177,7 @@ loop-less-3 c =
 
 loop-again-3 : tie.Need-loop-again-3 Inv-loop μ-loop
 loop-again-3 c =
-    let turn = c .before .before .before .before .before .before .before .before .before .before .before .before .before in
+    let turn = c .before .before .before .before .before .before .before .before .before .before .before .before in
     let inv = head turn .loop .inv in
     let some = entered turn .loop-test .taken in
     let repeat = c .before .before .before .before .repeat .ensures in
@@ -186,7 +185,7 @@ loop-again-3 c =
 
 add-first : tie.Need-add-first Inv-loop μ-loop
 add-first c =
-    let turn = c .before .before .before .before .before .before in
+    let turn = c .before .before .before .before .before in
     omega (arith, head turn .loop .inv .0 .within, start turn .pre .0)
 
 bits-requires-3 : tie.Need-bits-requires-3 Inv-loop μ-loop
@@ -194,13 +193,13 @@ bits-requires-3 c κs = search needs
 
 add-first-2 : tie.Need-add-first-2 Inv-loop μ-loop
 add-first-2 c =
-    let turn = c .before .before .before .before .before .before .before in
+    let turn = c .before .before .before .before .before .before in
     let high = field-lt 1 7 1 (turn .before .byte .result) (omega arith) in
     omega (arith, head turn .loop .inv .0 .within, start turn .pre .0, c .bits3 .ensures, high)
 
 add-byte : tie.Need-add-byte Inv-loop μ-loop
 add-byte c =
-    let turn = c .before .before .before .before .before .before .before in
+    let turn = c .before .before .before .before .before .before in
     omega (arith, head turn .loop .inv .0 .within, start turn .pre .0)
 
 byte-requires-2 : tie.Need-byte-requires-2 Inv-loop μ-loop
@@ -315,9 +314,9 @@ same-length c = ap length (c .before .loop .inv .2) ∙ filled-length _ _ _
 same-length-2 : tie.Need-same-length-2 Inv-loop μ-loop
 same-length-2 c = ap length (c .before .loop .inv .3) ∙ filled-length _ _ _
 
-returns : tie.Need-returns Inv-loop μ-loop
-returns c =
-    let e : c .before .loop .done ≡ c .before .before .before .before .before .args .count = omega (arith, c .before .loop .inv .0 .below, c .loop-test .left) in
+returns-2 : tie.Need-returns-2 Inv-loop μ-loop
+returns-2 c =
+    let e : c .before .loop .done ≡ c .before .before .before .before .before .before .args .count = omega (arith, c .before .loop .inv .0 .below, c .loop-test .left) in
     (rw e at (c .before .loop .inv .2), rw e at (c .before .loop .inv .3))
 
 pub write-spec : {M : Type 1} → statement M
@@ -326,16 +325,15 @@ write-spec =
     (tie.spec
     Inv-loop
     μ-loop
+    returns
     loop-holds
     byte-requires
     bits-requires
-    sub-empty
     empty-requires
     add-past-empty
     past-empty-requires
     loop-less
     loop-again
-    light-requires
     bits-requires-2
     sub-least
     least-requires
@@ -368,4 +366,4 @@ write-spec =
     loop-again-4
     same-length
     same-length-2
-    returns)
+    returns-2)
