@@ -13,9 +13,9 @@ use crate::Link;
 use crate::Modern;
 use crate::large_size;
 use crate::words::cut;
+use crate::words::word_here;
 use hbc_bits::bits;
 use hbc_io::u8_at;
-use hbc_io::u32_at;
 
 // The inline legacy record: the fields of lo + 2^64 * hi.
 pub(crate) fn legacy_inline(lo: u64, hi: u64, id: u32) -> Legacy
@@ -59,12 +59,12 @@ pub(crate) fn modern_inline(lo: u64, hi: u64, id: u32) -> Modern
     }
 }
 
-// The number of 8 bytes that are there, as two of 4: each of those is one load.
+// The number of 8 bytes that are there, as two of 4.
 pub(crate) fn u64_here(s: &[u8], at: usize) -> u64
     requires { ⌜ at + 8 ≤ length (now s) ⌝ }
     ensures { λ r. ⌜ r ≡ leAt (now (s .entry)) at 8 ⌝ }
 {
-    u32_at(s, at) as u64 + (u32_at(s, at + 4) as u64) * 0x1_0000_0000
+    word_here(s, at) as u64 + (word_here(s, at + 4) as u64) * 0x1_0000_0000
 }
 
 // The record of the inline header at `at`.
@@ -82,7 +82,7 @@ pub(crate) fn modern_here(s: &[u8], at: usize, id: u32) -> Modern
     ensures { λ r. ⌜ r ≡ modernOf id (leAt (now (s .entry)) at (sizeOf Modern12)) ⌝ }
 {
     let lo = u64_here(s, at);
-    let hi = u32_at(s, at + 8) as u64;
+    let hi = word_here(s, at + 8) as u64;
     modern_inline(lo, hi, id)
 }
 
@@ -93,13 +93,13 @@ pub(crate) fn legacy_large(s: &[u8], at: usize, id: u32) -> Legacy
 {
     Legacy {
         id,
-        offset: u32_at(s, at),
-        param_count: u32_at(s, at + 4),
-        size: u32_at(s, at + 8),
-        name: u32_at(s, at + 12),
-        info_offset: u32_at(s, at + 16),
-        frame_size: u32_at(s, at + 20),
-        environment_size: u32_at(s, at + 24),
+        offset: word_here(s, at),
+        param_count: word_here(s, at + 4),
+        size: word_here(s, at + 8),
+        name: word_here(s, at + 12),
+        info_offset: word_here(s, at + 16),
+        frame_size: word_here(s, at + 20),
+        environment_size: word_here(s, at + 24),
         read: u8_at(s, at + 28) as u32,
         write: u8_at(s, at + 29) as u32,
         flags: u8_at(s, at + 30) as u32,
@@ -113,14 +113,14 @@ pub(crate) fn modern_large(s: &[u8], at: usize, id: u32) -> Modern
 {
     Modern {
         id,
-        offset: u32_at(s, at),
-        param_count: u32_at(s, at + 4),
-        loop_depth: u32_at(s, at + 8),
-        size: u32_at(s, at + 12),
-        name: u32_at(s, at + 16),
-        number_reg: u32_at(s, at + 20),
-        non_ptr_reg: u32_at(s, at + 24),
-        frame_size: u32_at(s, at + 28),
+        offset: word_here(s, at),
+        param_count: word_here(s, at + 4),
+        loop_depth: word_here(s, at + 8),
+        size: word_here(s, at + 12),
+        name: word_here(s, at + 16),
+        number_reg: word_here(s, at + 20),
+        non_ptr_reg: word_here(s, at + 24),
+        frame_size: word_here(s, at + 28),
         read_cache: u8_at(s, at + 32) as u32,
         write_cache: u8_at(s, at + 33) as u32,
         new_object: u8_at(s, at + 34) as u32,
@@ -166,7 +166,7 @@ pub(crate) fn modern_flagged(s: &[u8], at: usize) -> bool
     ensures { λ r. ⌜ r ≡ overflowed (flagsOf (inlineOf Modern12 0 (leAt (now (s .entry)) at (sizeOf Modern12)))) ⌝ }
 {
     let lo = u64_here(s, at);
-    let hi = u32_at(s, at + 8) as u64;
+    let hi = word_here(s, at + 8) as u64;
     let r = modern_inline(lo, hi, 0);
     overflows(r.flags)
 }
@@ -190,7 +190,7 @@ pub(crate) fn modern_link(s: &[u8], at: usize) -> Link
     ensures { λ l. ⌜ l ≡ linkOf (inlineOf Modern12 0 (leAt (now (s .entry)) at (sizeOf Modern12))) ⌝ }
 {
     let lo = u64_here(s, at);
-    let hi = u32_at(s, at + 8) as u64;
+    let hi = word_here(s, at + 8) as u64;
     let r = modern_inline(lo, hi, 0);
     if overflows(r.flags) {
         return Link::Large(modern_place(r));

@@ -19,8 +19,8 @@ use crate::fields::modern_link;
 use crate::fields::u64_here;
 use crate::row::legacy_words;
 use crate::row::modern_words;
+use crate::words::word_here;
 use hbc_io::LIMIT;
-use hbc_io::u32_at;
 
 // The two forms of a function header, by the bytes that an inline one has.
 pub enum Layout {
@@ -216,7 +216,7 @@ pub fn modern_row(s: &[u8], at: usize, id: u32) -> [u32; WIDTH]
         return modern_words(modern_inline(0, 0, id));
     }
     let lo = u64_here(s, at);
-    let hi = u32_at(s, at + 8) as u64;
+    let hi = word_here(s, at + 8) as u64;
     modern_words(modern_inline(lo, hi, id))
 }
 

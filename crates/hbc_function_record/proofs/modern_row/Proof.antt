@@ -24,11 +24,11 @@ returns c = modern-row-is _ (c .modern-words .ensures) (c .before .modern-inline
 u64-here-requires : tie.Need-u64-here-requires
 u64-here-requires c κs = let h = is-there _ _ (c .before .there .ensures) (c .before .before .header-size .ensures) (c .if1 .left) in omega arith
 
-add-u32-at : tie.Need-add-u32-at
-add-u32-at c = let h = is-there _ _ (c .before .before .there .ensures) (c .before .before .before .header-size .ensures) (c .before .if1 .left) in search needs
+add-word-here : tie.Need-add-word-here
+add-word-here c = let h = is-there _ _ (c .before .before .there .ensures) (c .before .before .before .header-size .ensures) (c .before .if1 .left) in search needs
 
-u32-at-requires : tie.Need-u32-at-requires
-u32-at-requires c κs = search needs
+word-here-requires : tie.Need-word-here-requires
+word-here-requires c κs = let h = is-there _ _ (c .before .before .there .ensures) (c .before .before .before .header-size .ensures) (c .before .if1 .left) in omega arith
 
 cast-hi : tie.Need-cast-hi
 cast-hi c = search needs
@@ -40,7 +40,7 @@ modern-words-requires-2 : tie.Need-modern-words-requires-2
 modern-words-requires-2 c κs = search needs
 
 returns-2 : tie.Need-returns-2
-returns-2 c = let h = is-there _ _ (c .before .before .before .before .before .there .ensures) (c .before .before .before .before .before .before .header-size .ensures) (c .before .before .before .before .if1 .left) in modern-row-is _ (c .modern-words2 .ensures) (c .before .modern-inline2 .ensures) (joined _ _ 4 (omega arith) (c .before .before .before .u64-here .ensures) (c .before .before .u32-at .ensures ∙ word-there 4 _ _ (omega arith)) ∙ sym (word-there _ _ _ h))
+returns-2 c = let h = is-there _ _ (c .before .before .before .before .before .there .ensures) (c .before .before .before .before .before .before .header-size .ensures) (c .before .before .before .before .if1 .left) in modern-row-is _ (c .modern-words2 .ensures) (c .before .modern-inline2 .ensures) (joined _ _ 4 (omega arith) (c .before .before .before .u64-here .ensures) (c .before .before .word-here .ensures) ∙ sym (word-there _ _ _ h))
 
 pub modern-row-spec : {M : Type 1} → statement M
 modern-row-spec =
@@ -52,8 +52,8 @@ modern-row-spec =
     modern-words-requires
     returns
     u64-here-requires
-    add-u32-at
-    u32-at-requires
+    add-word-here
+    word-here-requires
     cast-hi
     modern-inline-requires-2
     modern-words-requires-2
