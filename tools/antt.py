@@ -35,10 +35,12 @@ def part(tree, crate, folder):
     return {p: t for p, t in tree.items() if p.startswith(front) and p.endswith(('.antt', '.rt'))}
 
 
+# Libraries that are parts of the program `replay`, cut off so that its check is short: they promise nothing, and no layer may name them.
+PARTS = 'replay_records', 'replay_cursor'
+
+
 def is_program(tree, crate):
-    """a program, or a library that is a part of one and has its name before its own: it promises nothing"""
-    words = crate.split('_')
-    return any(f"crates/{'_'.join(words[:n])}/src/main.rt" in tree for n in range(1, len(words) + 1))
+    return crate in PARTS or f'crates/{crate}/src/main.rt' in tree
 
 
 def is_claims(crate):

@@ -1,6 +1,6 @@
 -- The laws of fields, of the or and of little-endian numbers, each once, over every bit, width and word size.
 use Prim.Native.Nat.{ℕ, zero, suc, _+_, _*_, _-_, _/_, _%_, _^_, _≤_, _<_}
-use mathlib.Core.Path.{_≡_, sym, subst}
+use mathlib.Core.Path.{_≡_, refl, sym, subst, ap, _∙_}
 use mathlib.Core.List.{List, [], _∷_, _++_}
 use native.Mathlib.Nat.{add-mul-div-left, add-mul-mod-self-left, mul-assoc, add-assoc, mul-add, zero-add, div-eq-of-lt, div-div-eq-div-mul, add-sub-of-le, pow-succ', one-mul, add-zero, mod-eq-of-lt, mod-lt, zero-mod, div-le-self, lt-of-le-of-lt, lt-of-lt-of-le, mul-mod-left, mul-suc}
 use native.Mathlib.Omega.{arith}
@@ -102,3 +102,21 @@ le-add s at m n h =
 pub le-step : (s : List ℕ) (at n : ℕ) → at < length s → leAt s at (suc n) ≡ getD s at 0 + 256 * leAt s (suc at) n
 unfolding leAt
 le-step s at n h = rw (drop-cons s at 0 h)
+
+-- four bytes, as a sum of them that a compiler makes one load of
+module _ (s : List ℕ) (at : ℕ) where
+  none : leAt s at 0 ≡ 0
+  unfolding leAt
+  none = refl
+
+  step : (n m : ℕ) → at < length s → suc at ≡ m → leAt s at (suc n) ≡ getD s at 0 + 256 * leAt s m n
+  step n m h e = le-step s at n h ∙ ap (λ (k : ℕ). getD s at 0 + 256 * leAt s k n) e
+
+pub le-four : (s : List ℕ) (at : ℕ) {a b c d : ℕ} → at + 4 ≤ length s → a ≡ getD s at 0 → b ≡ getD s (at + 1) 0 → c ≡ getD s (at + 2) 0 → d ≡ getD s (at + 3) 0
+    → a + b * 256 + c * 65536 + d * 16777216 ≡ leAt s at 4
+le-four s at h p q r w =
+    let x = step s at 3 (at + 1) (omega arith) (omega arith) in
+    let y = step s (at + 1) 2 (at + 2) (omega arith) (omega arith) in
+    let z = step s (at + 2) 1 (at + 3) (omega arith) (omega arith) in
+    let u = step s (at + 3) 0 (at + 4) (omega arith) (omega arith) in
+    omega (arith, p, q, r, w, x, y, z, u, none s (at + 4))

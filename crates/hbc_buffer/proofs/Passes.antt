@@ -14,8 +14,8 @@ use Rattle.hbc_io.specs.Answer.{gives, refuses}
 use Rattle.hbc_rows.specs.Rows.{filled}
 use Rattle.hbc_buffer_literal.specs.Literal.{widthOf, literalOf, kindOf}
 use Rattle.hbc_buffer_literal.proofs.Laws.{width-most, kind-any}
-use Rattle.hbc_buffer.specs.Series.{Run, runOf, tagAt, headAt, after, usedOf, valueAt, kindAt, payloadAt}
-use Rattle.hbc_buffer.specs.Private.{byteAt, lengthOf, filledFrom, kindsFrom, payloadsFrom, Whole, Passed, Known, Empties, Goes, Writes}
+use Rattle.hbc_buffer.specs.Series.{runOf, tagAt, after, usedOf, valueAt, kindAt, payloadAt}
+use Rattle.hbc_buffer.specs.Private.{byteAt, lengthOf, filledFrom, kindsFrom, payloadsFrom, Whole, Passed, Known}
 use Rattle.hbc_buffer.proofs.Fills.{from-filled}
 use Rattle.hbc_buffer.proofs.Tags.{On, tag-on, tag-there, tag-cut, short-tag, short-length, none-width, head-here, head-skip, head-no}
 use Rattle.hbc_buffer.proofs.Runs.{Ready, ready-head, after-none, refused-stays, run-past, run-cut, run-value}

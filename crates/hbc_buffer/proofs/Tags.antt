@@ -131,7 +131,11 @@ head-here (suc f) s c h e k = rw (e, ne-eqb _ _ k)
 pub head-skip : (f : ℕ) (s : List ℕ) (c : Cursor) {t : Run} {n : Cursor} → 0 < f → tagAt s c ≡ got t n → t .left ≡ 0 → headAt f s c ≡ headAt (f - 1) s n
 unfolding headAt
 head-skip zero s c h e k = absurd (omega arith)
-head-skip (suc f) s c h e k = let m : suc f - 1 ≡ f = omega arith in rw (m, e, eq-eqb _ _ k)
+head-skip (suc f) s c {t} {n} h e k =
+    let m : suc f - 1 ≡ f = omega arith in
+    -- a tag of no values is followed by what stands behind it
+    let skips : cond (eqb (t .left) 0) (headAt f s n) (got t n) ≡ headAt f s n = rw (eq-eqb _ _ k) in
+    rw (m, e) skips
 
 pub head-none : (f : ℕ) (s : List ℕ) (c : Cursor) {r : Refusal} {n : Cursor} → 0 < f → tagAt s c ≡ refused r n → headAt f s c ≡ refused r n
 unfolding headAt

@@ -2,10 +2,9 @@
 use Prim.Native.Nat.{ℕ}
 use mathlib.Core.Path.{_≡_, refl}
 use mathlib.Core.List.{List}
-use native.Mathlib.Omega.{arith}
 use Rattle.hbc_io.proofs.Reading.{not-both}
 use Rattle.hbc_io.proofs.Alone.{oneU64, onePart}
-use Rattle.hbc_io.proofs.Exits.{alone}
+use Rattle.hbc_io.proofs.Exits.{alone, not-given}
 use Rattle.hbc_buffer_literal.specs.declared.ReadLiteral.{ReadLiteral}
 use Rattle.hbc_buffer_literal.specs.declared.ReadLiteral.the-variants as lit
 use Rattle.hbc_buffer_literal.specs.Literal.{saysLiteral}
@@ -26,8 +25,8 @@ oneLiteral (lit.Refused a n) (lit.Got w m) e = absurd (not-both e refl)
 pub oneSeries : (r q : Series) → saysSeries r ≡ saysSeries q → r ≡ q
 oneSeries (series.Used n) (series.Used m) e = cc
 oneSeries (series.Refused a) (series.Refused b) e = cc
-oneSeries (series.Used n) (series.Refused b) e = let z : _≡_ {A = ℕ} 0 1 = cc in absurd (omega arith)
-oneSeries (series.Refused a) (series.Used m) e = let z : _≡_ {A = ℕ} 0 1 = cc in absurd (omega arith)
+oneSeries (series.Used n) (series.Refused b) e = absurd (not-given (sym e))
+oneSeries (series.Refused a) (series.Used m) e = absurd (not-given e)
 
 -- one answer, and one value for each of two tables
 pub both : {R : Type 0} {r q : R} {a b c d : List ℕ} → (r ≡ q) × (_≡_ {A = List ℕ × List ℕ} (a, b) (c, d)) → (r ≡ q) × (a ≡ c) × (b ≡ d)

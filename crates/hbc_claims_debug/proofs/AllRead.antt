@@ -8,7 +8,7 @@ use Rattle.hbc_io.specs.Outcome.{Outcome, got, refused, cursorAt}
 use Rattle.hbc_io.specs.declared.Cursor.{Cursor}
 use Rattle.hbc_io.proofs.Reading.{then-got}
 use Rattle.hbc_io_strings.specs.Strings.{prefixed}
-use Rattle.hbc_io_strings.proofs.Texts.{prefix-moves}
+use Rattle.hbc_io_strings.proofs.Strings.{prefix-moves}
 use Rattle.hbc_rows.specs.Until.{until, after}
 use Rattle.hbc_io_leb.specs.Signed.{slebAt}
 use Rattle.hbc_rows.proofs.Untils.{until-more, until-stop}

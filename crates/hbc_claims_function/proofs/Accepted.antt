@@ -10,20 +10,19 @@ use Rattle.hbc_function_header.specs.Header.{functionAt, FunctionRow}
 use Rattle.hbc_function.specs.declared.Refreshed.the-variants as refreshed
 use Rattle.hbc_function.specs.Table.{scan, all, readAnswer, ReadFunctions}
 use Rattle.hbc_function.specs.Refresh.{refreshAnswer, RefreshFunctions}
-use Rattle.hbc_io.proofs.Exits.{reached}
-use Rattle.hbc_claims_function.proofs.Scans.{no-gives}
+use Rattle.hbc_io.proofs.Exits.{not-given, reached}
 use Rattle.hbc_claims_function.specs.Accepted.{Accepted, Refreshable}
 
 un-asked : {A : Type 0} (a : Answer A) → asked a ≡ gives tt → (v : A) × (a ≡ gives v)
 un-asked (gives v) e = (v, refl)
-un-asked (refuses x) e = absurd (no-gives e)
+un-asked (refuses x) e = absurd (not-given e)
 
 pub accepted : (s : List ℕ) (layout : Layout) (start count words : ℕ) → readAnswer s layout start count words ≡ gives tt → Accepted s layout start count words
 unfolding readAnswer
 accepted s layout start count words e =
-    let p = reached _ _ _ _ no-gives e in
-    let q = reached _ _ _ _ no-gives (p .1) in
-    let r = reached _ _ _ _ no-gives (q .1) in
+    let p = reached _ _ _ _ not-given e in
+    let q = reached _ _ _ _ not-given (p .1) in
+    let r = reached _ _ _ _ not-given (q .1) in
     let w = un-asked (scan all (functionAt s layout start) count) (r .1) in
     record { short = p .0; begins = q .0; holds = r .0; number = w .0; scans = w .1 }
 
@@ -31,12 +30,12 @@ pub refreshable : (s : List ℕ) (layout : Layout) (start count low high words k
     → Refreshable s layout start count low high words k
 unfolding refreshAnswer
 refreshable s layout start count low high words k e =
-    let a = reached _ _ _ _ no-gives e in
-    let b = reached _ _ _ _ no-gives (a .1) in
-    let c = reached _ _ _ _ no-gives (b .1) in
-    let d = reached _ _ _ _ no-gives (c .1) in
-    let f = reached _ _ _ _ no-gives (d .1) in
-    let g = reached _ _ _ _ no-gives (f .1) in
+    let a = reached _ _ _ _ not-given e in
+    let b = reached _ _ _ _ not-given (a .1) in
+    let c = reached _ _ _ _ not-given (b .1) in
+    let d = reached _ _ _ _ not-given (c .1) in
+    let f = reached _ _ _ _ not-given (d .1) in
+    let g = reached _ _ _ _ not-given (f .1) in
     record { holds = f .0; scans = g .1 }
 
 -- a refusal leaves the table

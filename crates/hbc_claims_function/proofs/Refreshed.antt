@@ -14,6 +14,7 @@ use Rattle.hbc_function_record.specs.declared.Record.{Record}
 use Rattle.hbc_function_header.specs.declared.Reading.{Reading}
 use Rattle.hbc_function_header.specs.declared.Reading.the-variants as reading
 use Rattle.hbc_io.specs.Answer.{Answer, gives, asked}
+use Rattle.hbc_io.proofs.Exits.{not-given}
 use Rattle.hbc_function_header.specs.Header.{saysReading, functionAt}
 use Rattle.hbc_function_record.specs.Row.{width}
 use Rattle.hbc_function_header.specs.Meets.{meets}
@@ -25,7 +26,7 @@ use Rattle.hbc_function.proofs.Laws.{put-length, scanned, met}
 use Rattle.hbc_claims_law.specs.Terms.{Same}
 use Rattle.hbc_claims_function.proofs.Function.{function-same}
 use Rattle.hbc_claims_function.proofs.Words.{word-at, word-kept, word-past}
-use Rattle.hbc_claims_function.proofs.Scans.{no-gives, a-record, scan-each, alike, all-held}
+use Rattle.hbc_claims_function.proofs.Scans.{a-record, scan-each, alike, all-held}
 use Rattle.hbc_claims_function.proofs.Accepted.{accepted, refreshable}
 use Rattle.hbc_claims_function.specs.Refreshed.{AsFresh}
 
@@ -110,8 +111,8 @@ module _ {a b : List ℕ} {low high : ℕ} (v : Same a b low high) (layout : Lay
     only-read = λ m h. let z : _≡_ {A = ℕ} 0 1 = cc in absurd (omega arith);
     only-refused = λ x h. cc;
   }
-  by-case reading.Read (refreshed.Refused w) e f g = absurd (no-gives (sym e))
-  by-case (reading.Refused y) (refreshed.Done n) e f g = absurd (no-gives e)
+  by-case reading.Read (refreshed.Refused w) e f g = absurd (not-given (sym e))
+  by-case (reading.Refused y) (refreshed.Done n) e f g = absurd (not-given e)
 
   -- one equation for the four directions
   pub answers : {r : Reading} {q : Refreshed} → low ≤ high → high ≤ length b → ReadFunctions b layout start count t r t₂

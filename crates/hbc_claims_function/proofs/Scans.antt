@@ -8,10 +8,10 @@ use native.Mathlib.Nat.{le-div-iff-mul-le, add-mul, one-mul}
 use lib.ListN.{length}
 use lib.Dec.{eqb}
 use borrow.Author.Tests.{eqb-true, eqb-false}
-use Rattle.hbc_io.specs.declared.Refusal.{Refusal}
 use Rattle.hbc_function_record.specs.declared.Layout.{Layout}
 use Rattle.hbc_function_record.specs.declared.Record.{Record}
 use Rattle.hbc_io.specs.Answer.{Answer, gives, refuses, asked}
+use Rattle.hbc_io.proofs.Exits.{not-given}
 use Rattle.hbc_function_record.specs.Record.{sizeOf}
 use Rattle.hbc_function_header.specs.Header.{functionAt}
 use Rattle.hbc_function.specs.Table.{counted, step, scan, all}
@@ -20,30 +20,27 @@ use Rattle.hbc_function.proofs.Laws.{size-pos}
 use Rattle.hbc_claims_function.proofs.Function.{ends}
 use Rattle.hbc_claims_law.specs.Terms.{countOf}
 
-pub no-gives : {A : Type 0} {x : Refusal} {a : A} → refuses x ≡ gives a → ⊥
-no-gives e = let z : _≡_ {A = ℕ} 0 1 = cc in omega arith
-
 -- what is read is a record
 pub a-record : (a : Answer Record) → asked a ≡ gives tt → (r : Record) × (a ≡ gives r)
 a-record (gives r) e = (r, refl)
-a-record (refuses x) e = absurd (no-gives e)
+a-record (refuses x) e = absurd (not-given e)
 
 counted-read : (n k : ℕ) (a : Answer Record) → counted n a ≡ gives k → (asked a ≡ gives tt) × (k ≡ n + 1)
 counted-read n k (gives r) e = (refl, cc)
-counted-read n k (refuses x) e = absurd (no-gives e)
+counted-read n k (refuses x) e = absurd (not-given e)
 
 -- a step that was accepted
 step-before : (b : Bool) (x : Answer ℕ) (a : Answer Record) (k : ℕ) → step b x a ≡ gives k → (n : ℕ) × (x ≡ gives n)
 unfolding step
 step-before false x a k e = (k, e)
 step-before true (gives n) a k e = (n, refl)
-step-before true (refuses y) a k e = absurd (no-gives e)
+step-before true (refuses y) a k e = absurd (not-given e)
 
 step-this : (b : Bool) (x : Answer ℕ) (a : Answer Record) (k : ℕ) → step b x a ≡ gives k → b ≡ true → asked a ≡ gives tt
 unfolding step
 step-this false x a k e p = let z : _≡_ {A = ℕ} 0 1 = cc in absurd (omega arith)
 step-this true (gives n) a k e p = counted-read n k a e .0
-step-this true (refuses y) a k e p = absurd (no-gives e)
+step-this true (refuses y) a k e p = absurd (not-given e)
 
 step-count : (b : Bool) (n k : ℕ) (a : Answer Record) → step b (gives n) a ≡ gives k → k ≡ cond b (n + 1) n
 unfolding step
@@ -100,13 +97,13 @@ asked-step : (x y : Answer ℕ) (a : Answer Record) → asked x ≡ asked y → 
 unfolding step
 asked-step (gives m) (gives n) a e = asked-counted m n a
 asked-step (refuses x) (refuses y) a e = e
-asked-step (gives m) (refuses y) a e = absurd (no-gives (sym e))
-asked-step (refuses x) (gives n) a e = absurd (no-gives e)
+asked-step (gives m) (refuses y) a e = absurd (not-given (sym e))
+asked-step (refuses x) (gives n) a e = absurd (not-given e)
 
 asked-skip : (x : Answer ℕ) (a : Answer Record) → asked a ≡ gives tt → asked (step true x a) ≡ asked x
 unfolding step
 asked-skip (gives m) (gives r) e = refl
-asked-skip (gives m) (refuses y) e = absurd (no-gives e)
+asked-skip (gives m) (refuses y) e = absurd (not-given e)
 asked-skip (refuses x) a e = refl
 
 -- fa was read whole; fb is the same where it is not chosen: then reading all of fb ends as reading the chosen of fb does

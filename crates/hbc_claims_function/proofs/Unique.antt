@@ -2,7 +2,7 @@
 use Prim.Native.Nat.{ℕ}
 use mathlib.Core.Path.{_≡_, refl, sym}
 use native.Mathlib.Omega.{arith}
-use Rattle.hbc_io.proofs.Exits.{alone}
+use Rattle.hbc_io.proofs.Exits.{alone, not-given}
 use Rattle.hbc_function_header.specs.declared.Function.{Function}
 use Rattle.hbc_function_header.specs.declared.Function.the-variants as fun
 use Rattle.hbc_function_header.specs.declared.Reading.{Reading}
@@ -16,7 +16,6 @@ use Rattle.hbc_function_header.specs.Meets.{saysMeeting}
 use Rattle.hbc_function.specs.declared.Refreshed.{Refreshed}
 use Rattle.hbc_function.specs.declared.Refreshed.the-variants as refreshed
 use Rattle.hbc_function.specs.Refresh.{saysRefreshed}
-use Rattle.hbc_claims_function.proofs.Scans.{no-gives}
 use Rattle.hbc_claims_law.proofs.Law.{same}
 use Rattle.hbc_claims_function.specs.Unique.{Unique}
 
@@ -24,14 +23,14 @@ use Rattle.hbc_claims_function.specs.Unique.{Unique}
 pub one-function : (a b : Function) → saysFunction a ≡ saysFunction b → a ≡ b
 one-function (fun.Read r) (fun.Read q) e = cc
 one-function (fun.Refused r) (fun.Refused q) e = cc
-one-function (fun.Read r) (fun.Refused q) e = absurd (no-gives (sym e))
-one-function (fun.Refused r) (fun.Read q) e = absurd (no-gives e)
+one-function (fun.Read r) (fun.Refused q) e = absurd (not-given (sym e))
+one-function (fun.Refused r) (fun.Read q) e = absurd (not-given e)
 
 pub one-reading : (a b : Reading) → saysReading a ≡ saysReading b → a ≡ b
 one-reading reading.Read reading.Read e = refl
 one-reading (reading.Refused r) (reading.Refused q) e = cc
-one-reading reading.Read (reading.Refused q) e = absurd (no-gives (sym e))
-one-reading (reading.Refused r) reading.Read e = absurd (no-gives e)
+one-reading reading.Read (reading.Refused q) e = absurd (not-given (sym e))
+one-reading (reading.Refused r) reading.Read e = absurd (not-given e)
 
 pub one-grounded : (a b : Grounded) → saysGrounded a ≡ saysGrounded b → a ≡ b
 one-grounded (grounded.Inline at) (grounded.Inline by) e = let p : at ≡ by = cc in rw p
@@ -39,22 +38,22 @@ one-grounded (grounded.Large at p) (grounded.Large by q) e = let f : at ≡ by =
 one-grounded (grounded.Refused r) (grounded.Refused q) e = cc
 one-grounded (grounded.Inline at) (grounded.Large by q) e = let z : _≡_ {A = ℕ} 0 1 = cc in absurd (omega arith)
 one-grounded (grounded.Large at p) (grounded.Inline by) e = let z : _≡_ {A = ℕ} 0 1 = cc in absurd (omega arith)
-one-grounded (grounded.Inline at) (grounded.Refused q) e = absurd (no-gives (sym e))
-one-grounded (grounded.Large at p) (grounded.Refused q) e = absurd (no-gives (sym e))
-one-grounded (grounded.Refused r) (grounded.Inline by) e = absurd (no-gives e)
-one-grounded (grounded.Refused r) (grounded.Large by q) e = absurd (no-gives e)
+one-grounded (grounded.Inline at) (grounded.Refused q) e = absurd (not-given (sym e))
+one-grounded (grounded.Large at p) (grounded.Refused q) e = absurd (not-given (sym e))
+one-grounded (grounded.Refused r) (grounded.Inline by) e = absurd (not-given e)
+one-grounded (grounded.Refused r) (grounded.Large by q) e = absurd (not-given e)
 
 pub one-meeting : (a b : Meeting) → saysMeeting a ≡ saysMeeting b → a ≡ b
 one-meeting (meeting.Met r) (meeting.Met q) e = cc
 one-meeting (meeting.Refused r) (meeting.Refused q) e = cc
-one-meeting (meeting.Met r) (meeting.Refused q) e = absurd (no-gives (sym e))
-one-meeting (meeting.Refused r) (meeting.Met q) e = absurd (no-gives e)
+one-meeting (meeting.Met r) (meeting.Refused q) e = absurd (not-given (sym e))
+one-meeting (meeting.Refused r) (meeting.Met q) e = absurd (not-given e)
 
 pub one-refreshed : (a b : Refreshed) → saysRefreshed a ≡ saysRefreshed b → a ≡ b
 one-refreshed (refreshed.Done r) (refreshed.Done q) e = cc
 one-refreshed (refreshed.Refused r) (refreshed.Refused q) e = cc
-one-refreshed (refreshed.Done r) (refreshed.Refused q) e = absurd (no-gives (sym e))
-one-refreshed (refreshed.Refused r) (refreshed.Done q) e = absurd (no-gives e)
+one-refreshed (refreshed.Done r) (refreshed.Refused q) e = absurd (not-given (sym e))
+one-refreshed (refreshed.Refused r) (refreshed.Done q) e = absurd (not-given e)
 
 pub unique : Unique
 unique = record {

@@ -15,7 +15,7 @@ use Rattle.hbc_io_leb.specs.Answers.{ulebOf, slebOf}
 use Rattle.hbc_io_leb.specs.Signed.{slebAt}
 use Rattle.hbc_io_leb.specs.declared.Sleb.{Sleb}
 use Rattle.hbc_io_strings.specs.Strings.{zeroEnded, before0, prefixed}
-use Rattle.hbc_io_strings.proofs.Texts.{prefix-got, prefix-refused}
+use Rattle.hbc_io_strings.proofs.Strings.{prefix-got, prefix-refused}
 use Rattle.hbc_claims_law.proofs.Tests.{either}
 use Rattle.hbc_claims_law.specs.Terms.{stays, lebLeft, textLeft, PrefixLeft, no-length, no-bytes}
 

@@ -1,7 +1,7 @@
 -- Counting and writing the lists of parts that a file holds, where there is room: nothing is refused.
-use Prim.Native.Nat.{ℕ, _+_, _*_, _≤_, _<_}
+use Prim.Native.Nat.{ℕ, _+_, _*_, _≤_}
 use mathlib.Core.Path.{_≡_, refl, ap, sym, _∙_}
-use mathlib.Core.List.{List, [], _∷_, _++_}
+use mathlib.Core.List.{List, [], _∷_}
 use native.Mathlib.Omega.{arith}
 use lib.ListN.{length, length-append}
 use lib.Seq.{sets}
@@ -9,9 +9,9 @@ use Rattle.hbc_io.specs.Outcome.{limit}
 use Rattle.hbc_io.specs.Answer.{Answer, gives, refuses}
 use Rattle.hbc_io.specs.Lends.{written}
 use Rattle.hbc_io.specs.declared.Refusal.{Refusal}
-use Rattle.hbc_io.proofs.Exits.{words}
+use Rattle.hbc_io.proofs.Exits.{words, not-given}
 use Rattle.hbc_rows.specs.Rows.{rows}
-use Rattle.hbc_rows.specs.Until.{flat, flatFrom, sum}
+use Rattle.hbc_rows.specs.Until.{flat, flatFrom}
 use Rattle.hbc_debug_parts.specs.declared.InFile.{InFile}
 use Rattle.hbc_debug_parts.specs.declared.Written.{Written}
 use Rattle.hbc_debug_parts.specs.Lists.{inLimit, withRoom, inFront}
@@ -26,13 +26,10 @@ use Rattle.hbc_debug_scopes.specs.declared.ScopesCounted.the-variants as scopes
 use Rattle.hbc_debug_scopes.specs.Private.{ScopesAre, RowsAre}
 use Rattle.hbc_debug_scopes.specs.declared.ScopeCounts.{ScopeCounts}
 use Rattle.hbc_debug_scopes.proofs.Fronts.{length-cells, row-size}
-use Rattle.hbc_debug_callees.specs.Callees.{Callee, calleesOf, calleeWidth, calleeRow, calleeWords, saysCalleesCounted, countCallees, WriteCallees}
+use Rattle.hbc_debug_callees.specs.Callees.{calleesOf, calleeWidth, calleeRow, calleeWords, saysCalleesCounted, countCallees, WriteCallees}
 use Rattle.hbc_debug_callees.specs.declared.CalleeCount.{CalleeCount}
 use Rattle.hbc_debug_callees.specs.declared.CalleesCounted.{CalleesCounted}
 use Rattle.hbc_debug_callees.specs.declared.CalleesCounted.the-variants as callees
-
-no-gives : {A : Type 0} {x : Refusal} {a : A} → gives a ≡ refuses x → ⊥
-no-gives e = let z : _≡_ {A = ℕ} 0 1 = cc in omega arith
 
 given-one : {A : Type 0} {a b : A} → gives a ≡ gives b → a ≡ b
 given-one e = cc
@@ -61,7 +58,7 @@ module _ {A : Type 0} (a : A) (end : ℕ) (h : end ≤ limit) where
   counted-is e = given-one (e ∙ sym (limit-in (gives a) end h))
 
   counted-not : {x : Refusal} → refuses x ≡ inLimit end (gives a) → ⊥
-  counted-not e = no-gives (limit-in (gives a) end h ∙ sym e)
+  counted-not e = not-given (e ∙ sym (limit-in (gives a) end h))
 
 module _ (s : List ℕ) (h : length s ≤ limit) where
   pub strings-counted : {r : StringsCounted} {k : StringCount} → saysStringsCounted r ≡ countStrings s → r ≡ strings.Counts k → k .strings ≡ length (stringsOf s)

@@ -13,7 +13,7 @@ use Rattle.hbc_io.specs.Answer.{Answer, gives, refuses, refusedAt, andThen}
 use Rattle.hbc_io.specs.Lends.{below, choose, written}
 use Rattle.hbc_io.specs.declared.Refusal.{Refusal}
 use Rattle.hbc_io.specs.declared.Span.{Span}
-use Rattle.hbc_io.proofs.Exits.{refused, reached}
+use Rattle.hbc_io.proofs.Exits.{refused, not-given, reached}
 use Rattle.hbc_debug_parts.specs.Places.{inFile, inSection}
 use Rattle.hbc_debug_parts.specs.Parts.{headerSize, dataStart, dataEnd, scopesAt, calleesAt, stringsAt, noPart, noParts, partAt, partsIn, isEmpty}
 use Rattle.hbc_debug_parts.specs.Parts.{headerAt, partsOf, saysParts, FindParts, partBytes}
@@ -62,12 +62,9 @@ parts-within left section h = go (ltb left (inSection (dataStart h) (dataEnd h) 
           (omega (arith, ltb-false left (inSection (dataStart h) (dataEnd h) .0) u));
     }
 
-never : {P : Type 0} {k : Refusal} {p : Parts} → refuses k ≡ gives p → P
-never e = let z : _≡_ {A = ℕ} 0 1 = cc in absurd (omega arith)
-
 pub found-within : (file : List ℕ) (offset : ℕ) (p : Parts) → partsOf file offset ≡ gives p → Within limit p
 unfolding partsOf choose
-found-within file offset p e = let a = reached _ _ _ _ never e in go (isEmpty (length file) offset) refl (a .0) (a .1)
+found-within file offset p e = let a = reached _ _ _ _ not-given e in go (isEmpty (length file) offset) refl (a .0) (a .1)
   where
     all : Parts
     all = partsIn (length file - offset) (record { 0 = offset }) (headerAt file (record { 0 = offset }))
@@ -79,7 +76,7 @@ found-within file offset p e = let a = reached _ _ _ _ never e in go (isEmpty (l
         → cond b (gives noParts) (below (length file - offset) headerSize (refusedAt 3 0) (gives all)) ≡ gives p → Within limit p
     go true u l f = let q : noParts ≡ p = cc in rw q at none-within
     go false u l f =
-        let d : gives all ≡ gives p = reached _ _ _ _ never f .1 in
+        let d : gives all ≡ gives p = reached _ _ _ _ not-given f .1 in
         let q : all ≡ p = cc in
         let x = parts-within (length file - offset) (record { 0 = offset }) (headerAt file (record { 0 = offset })) .strings in
         let y : Within limit all = record { strings = omega (arith, inside-of (length file) offset u) } in
@@ -111,7 +108,7 @@ module _ (file : List ℕ) (offset : ℕ) where
   part-fits q d e u =
       let t = ap length u in
       let h = part-most file (q .start .0) (q .len) in
-      let l = reached _ _ _ _ never (sym d ∙ ap saysParts e) .0 in
+      let l = reached _ _ _ _ not-given (sym d ∙ ap saysParts e) .0 in
       omega arith
 
   pub base-fits : {f : PartsFound} {p : Parts} {s : List ℕ} → FindParts file offset f → f ≡ found.Found p → s ≡ partBytes file (p .strings)

@@ -1,7 +1,6 @@
 -- Two answers that say the same are the same.
-use mathlib.Core.Path.{_≡_}
-use Prim.Native.Nat.{ℕ}
-use native.Mathlib.Omega.{arith}
+use mathlib.Core.Path.{_≡_, sym}
+use Rattle.hbc_io.proofs.Exits.{not-given}
 use Rattle.hbc_debug_parts.specs.Parts.{saysParts}
 use Rattle.hbc_debug_parts.specs.declared.PartsFound.{PartsFound}
 use Rattle.hbc_debug_parts.specs.declared.PartsFound.the-variants as found
@@ -9,5 +8,5 @@ use Rattle.hbc_debug_parts.specs.declared.PartsFound.the-variants as fou
 pub oneParts : (r q : PartsFound) → saysParts r ≡ saysParts q → r ≡ q
 oneParts (found.Found a) (found.Found b) e = cc
 oneParts (found.Refused a) (found.Refused b) e = cc
-oneParts (found.Found a) (found.Refused b) e = let z : _≡_ {A = ℕ} 0 1 = cc in absurd (omega arith)
-oneParts (found.Refused a) (found.Found b) e = let z : _≡_ {A = ℕ} 0 1 = cc in absurd (omega arith)
+oneParts (found.Found a) (found.Refused b) e = absurd (not-given (sym e))
+oneParts (found.Refused a) (found.Found b) e = absurd (not-given e)

@@ -3,7 +3,6 @@ use Prim.Native.Nat.{ℕ, _+_, _≤_, _<_, min, max}
 use mathlib.Core.Path.{_≡_, refl, ap, sym, _∙_}
 use mathlib.Core.List.{List}
 use mathlib.Core.Bool.{Bool, true, false, cond}
-use native.Mathlib.Omega.{arith}
 use lib.ListN.{length}
 use lib.Dec.{ltb}
 use borrow.Author.Tests.{le-ltb, lt-ltb, ltb-true}
@@ -11,7 +10,7 @@ use Rattle.hbc_io.specs.declared.Refusal.{Refusal}
 use Rattle.hbc_io.specs.Outcome.{limit}
 use Rattle.hbc_io.specs.Answer.{Answer, gives, refuses, refusedAt}
 use Rattle.hbc_io.specs.Lends.{below}
-use Rattle.hbc_io.proofs.Exits.{reached}
+use Rattle.hbc_io.proofs.Exits.{not-given, reached}
 use Rattle.hbc_function_record.specs.declared.Layout.{Layout}
 use Rattle.hbc_io.specs.Plain.{wordAt}
 use Rattle.hbc_function_record.specs.Record.{sizeOf, largeOf, inlineOf, flagsOf, overflowed}
@@ -21,9 +20,6 @@ use Rattle.hbc_function_header.specs.declared.Meeting.the-variants as me
 use Rattle.hbc_function_header.specs.Header.{headerAt, groundOf, headed}
 use Rattle.hbc_function_header.specs.Meets.{overlap, groundMeets, meets, spanned, saysMeeting, functionMeets}
 use Rattle.hbc_function_header.proofs.Headers.{plain-ground, ground-cut, opened-long, opened-past, opened-at, headed-none, headed-at, is-ground}
-
-no-gives : {A : Type 0} {r : Refusal} {a : A} → refuses r ≡ gives a → ⊥
-no-gives e = let z : _≡_ {A = ℕ} 0 1 = cc in omega arith
 
 module _ (a n low high : ℕ) where
   pub apart : min (a + n) high ≤ max a low → false ≡ overlap a n low high
@@ -97,7 +93,7 @@ module _ (s : List ℕ) (layout : Layout) (start i low high : ℕ) where
     pub met-given : {r : Meeting} {b : Bool} → saysMeeting r ≡ functionMeets s layout start i low high → r ≡ meeting.Met b → b ≡ meets s layout start low high i
     met-given {b = b} e f =
         let w : headed s layout start i (gives (meets s layout start low high i)) ≡ gives b = meets-at ∙ sym e ∙ ap saysMeeting f in
-        let n = reached _ _ _ _ no-gives w .1 in
+        let n = reached _ _ _ _ not-given w .1 in
         cc
 
     pub met-refused : {r : Meeting} {x : Refusal} → saysMeeting r ≡ functionMeets s layout start i low high → r ≡ meeting.Refused x
@@ -108,4 +104,4 @@ module _ (s : List ℕ) (layout : Layout) (start i low high : ℕ) where
         by : (t : Bool) → ltb (length s) (headerAt layout start i + sizeOf layout) ≡ t
             → cond t (refusedAt 3 i) (gives (meets s layout start low high i)) ≡ refuses x → false ≡ meets s layout start low high i
         by true p q = sym (none-meets (ltb-true _ _ p))
-        by false p q = absurd (no-gives (sym q))
+        by false p q = absurd (not-given (sym q))

@@ -1,13 +1,13 @@
 -- The cases of Record's definitions, each from plain facts on numbers.
-use Prim.Native.Nat.{ℕ, suc, _+_, _*_, _^_, _≤_, _<_}
+use Prim.Native.Nat.{ℕ, _+_, _*_, _^_, _≤_, _<_}
 use mathlib.Core.Path.{_≡_, refl, sym, ap, _∙_}
 use mathlib.Core.List.{List}
 use mathlib.Core.Bool.{Bool, true, false, not}
 use native.Mathlib.Omega.{arith}
-use lib.ListN.{length, getD}
+use lib.ListN.{length}
 use borrow.Author.Tests.{le-ltb, lt-ltb, le-leb, lt-leb, leb-true, leb-false, not-true, not-false}
 use Rattle.hbc_bits.specs.Bits.{leAt, field}
-use Rattle.hbc_bits.proofs.Laws.{le-add, le-step}
+use Rattle.hbc_bits.proofs.Laws.{le-add}
 use Rattle.hbc_io.specs.Outcome.{limit}
 use Rattle.hbc_io.specs.Lends.{below, choose}
 use Rattle.hbc_io.specs.Plain.{wordAt}
@@ -31,23 +31,6 @@ joined s at n h p q = rw (p, q) (sym (le-add s at 8 n (omega arith)))
 -- two halves of a word
 pub halved : (s : List ℕ) (at : ℕ) {lo hi : ℕ} → at + 8 ≤ length s → lo ≡ leAt s at 4 → hi ≡ leAt s (at + 4) 4 → lo + hi * 2 ^ 32 ≡ leAt s at 8
 halved s at h p q = let e = le-add s at 4 4 (omega arith) in omega (arith, p, q, e)
-
--- and four bytes
-no-bytes : (s : List ℕ) (at : ℕ) → leAt s at 0 ≡ 0
-unfolding leAt
-no-bytes s at = refl
-
-step : (s : List ℕ) (at n m : ℕ) → at < length s → suc at ≡ m → leAt s at (suc n) ≡ getD s at 0 + 256 * leAt s m n
-step s at n m h e = le-step s at n h ∙ ap (λ (k : ℕ). getD s at 0 + 256 * leAt s k n) e
-
-pub word-is : (s : List ℕ) (at : ℕ) {a b c d : ℕ} → at + 4 ≤ length s → a ≡ getD s at 0 → b ≡ getD s (at + 1) 0 → c ≡ getD s (at + 2) 0 → d ≡ getD s (at + 3) 0
-    → a + b * 256 + c * 65536 + d * 16777216 ≡ leAt s at 4
-word-is s at h p q r w =
-    let x = step s at 3 (at + 1) (omega arith) (omega arith) in
-    let y = step s (at + 1) 2 (at + 2) (omega arith) (omega arith) in
-    let z = step s (at + 2) 1 (at + 3) (omega arith) (omega arith) in
-    let u = step s (at + 3) 0 (at + 4) (omega arith) (omega arith) in
-    omega (arith, p, q, r, w, x, y, z, u, no-bytes s (at + 4))
 
 -- ---- whether the bytes are there
 

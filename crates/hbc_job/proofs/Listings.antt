@@ -7,7 +7,6 @@ use lib.ListN.{length, take, drop, length-drop}
 use lib.Seq.{take-all}
 use Rattle.hbc_io.specs.declared.Refusal.{Refusal}
 use Rattle.hbc_io.specs.Answer.{Answer, gives, refuses, andThen}
-use Rattle.hbc_io.specs.Lends.{below}
 use Rattle.hbc_io.proofs.Exits.{reached, not-given}
 use Rattle.hbc_function_record.specs.Row.{width}
 use Rattle.hbc_function_header.specs.declared.Reading.{Reading}

@@ -1,6 +1,6 @@
 //! The debug section: strings, scopes with their names, and callees. It is read on 8 KiB of stack where the callees'
 //! addresses rise or there are none, else on 272 KiB, however many there are; n of those take three passes over all of
-//! them for each 65,536.
+//! them for each 65,536, so that the time grows with n²/65,536: sorting in that space takes no less.
 //!
 //! ```
 //! // One byte, then the section: seven words, and the data in three parts.

@@ -1,4 +1,4 @@
-//! Recorded samples, as the program `replay` reads them: docs/COMPARISON.md has their form.
+//! Recorded samples, as the program `replay` reads them: docs/RECORDS.md has their form.
 
 use harness::count;
 

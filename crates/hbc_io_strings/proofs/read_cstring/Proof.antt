@@ -6,7 +6,7 @@ use denote.Ref.{now}
 use lib.ListN.{length, drop}
 use Rattle.hbc_io.proofs.Reading.{refused-so}
 use Rattle.hbc_io_strings.specs.Strings.{before0, zeroEnded}
-use Rattle.hbc_io_strings.proofs.Texts.{text-on, text-off, text-end, zero-found, zero-none}
+use Rattle.hbc_io_strings.proofs.Strings.{text-on, text-off, text-end, zero-found, zero-none}
 use borrow.Author.Needs.{needs}
 use Rattle.hbc_io_strings.proofs.read_cstring.Statement.{statement}
 use Rattle.hbc_io_strings.proofs.read_cstring.Tie as tie

@@ -1,7 +1,7 @@
 use mathlib.Core.Path.{sym, _∙_}
 use Rattle.hbc_io.proofs.Reading.{found}
 use Rattle.hbc_io_leb.specs.Answers.{saysUleb}
-use Rattle.hbc_io_strings.proofs.Texts.{prefix-got, prefix-refused}
+use Rattle.hbc_io_strings.proofs.Strings.{prefix-got, prefix-refused}
 use borrow.Author.Needs.{needs}
 use Rattle.hbc_io_strings.proofs.read_length_prefixed_string.Statement.{statement}
 use Rattle.hbc_io_strings.proofs.read_length_prefixed_string.Tie as tie

@@ -1,5 +1,5 @@
 use native.Mathlib.Omega.{arith}
-use Rattle.hbc_function_record.proofs.Records.{word-is}
+use Rattle.hbc_bits.proofs.Laws.{le-four}
 use borrow.Author.Needs.{needs}
 use Rattle.hbc_function_record.proofs.words.word_here.Statement.{statement}
 use Rattle.hbc_function_record.proofs.words.word_here.Tie as tie
@@ -56,7 +56,7 @@ add-result-3 : tie.Need-add-result-3
 add-result-3 c = search needs
 
 returns : tie.Need-returns
-returns c = word-is _ _ (omega arith) (c .before .before .before .before .before .before .wide .ensures .0) (c .before .before .before .before .wide2 .ensures .0) (c .before .before .wide3 .ensures .0) (c .wide4 .ensures .0)
+returns c = le-four _ _ (omega arith) (c .before .before .before .before .before .before .wide .ensures .0) (c .before .before .before .before .wide2 .ensures .0) (c .before .before .wide3 .ensures .0) (c .wide4 .ensures .0)
 
 pub word-here-spec : {M : Type 1} → statement M
 word-here-spec =
