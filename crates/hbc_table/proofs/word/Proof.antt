@@ -1,4 +1,4 @@
-use Rattle.hbc_bits.proofs.Laws.{le-four}
+use Rattle.hbc_table.proofs.Laws.{word-is}
 use native.Mathlib.Omega.{arith}
 use borrow.Author.Needs.{needs}
 use Rattle.hbc_table.proofs.word.Statement.{statement}
@@ -56,9 +56,7 @@ add-result-3 : tie.Need-add-result-3
 add-result-3 c = omega arith
 
 returns : tie.Need-returns
-returns c =
-    let e = le-four _ _ (omega arith) (c .before .before .before .before .before .before .wide .ensures .0) (c .before .before .before .before .wide2 .ensures .0) (c .before .before .wide3 .ensures .0) (c .wide4 .ensures .0) in
-    omega (arith, e)
+returns c = word-is _ _ (omega arith) (c .before .before .before .before .before .before .wide .ensures .0) (c .before .before .before .before .wide2 .ensures .0) (c .before .before .wide3 .ensures .0) (c .wide4 .ensures .0)
 
 pub word-spec : {M : Type 1} → statement M
 word-spec =
