@@ -36,7 +36,7 @@ def part(tree, crate, folder):
 
 
 # Libraries that are parts of the program `replay`, cut off so that its check is short: they promise nothing, and no layer may name them.
-PARTS = 'replay_records', 'replay_cursor'
+PARTS = 'replay_records', 'replay_cursor', 'replay_function', 'replay_buffer'
 
 
 def is_program(tree, crate):
