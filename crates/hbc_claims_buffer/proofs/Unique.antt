@@ -1,6 +1,6 @@
 -- Each call leaves one outcome: its promise fixes the answer and every lent word.
 use Prim.Native.Nat.{ℕ}
-use mathlib.Core.Path.{_≡_, refl}
+use mathlib.Core.Path.{_≡_, sym, refl}
 use mathlib.Core.List.{List}
 use Rattle.hbc_io.proofs.Reading.{not-both}
 use Rattle.hbc_io.proofs.Alone.{oneU64, onePart}
