@@ -35,12 +35,8 @@ def part(tree, crate, folder):
     return {p: t for p, t in tree.items() if p.startswith(front) and p.endswith(('.antt', '.rt'))}
 
 
-# Libraries that are parts of the program `replay`, cut off so that its check is short: they promise nothing, and no layer may name them.
-PARTS = 'replay_records', 'replay_cursor', 'replay_function', 'replay_buffer'
-
-
 def is_program(tree, crate):
-    return crate in PARTS or f'crates/{crate}/src/main.rt' in tree
+    return f'crates/{crate}/src/main.rt' in tree
 
 
 def is_claims(crate):

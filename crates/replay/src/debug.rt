@@ -1,10 +1,10 @@
 // Debug sections. Asked: words lent in four tables; offset. The answer: code, four counts; then the tables.
-use replay_records::Asked;
-use replay_records::FILL;
-use replay_records::are;
-use replay_records::field;
-use replay_records::lent;
-use replay_records::words_are;
+use crate::records::Asked;
+use crate::records::FILL;
+use crate::records::are;
+use crate::records::field;
+use crate::records::lent;
+use crate::records::words_are;
 
 fn are_left(
     record: &[u8],

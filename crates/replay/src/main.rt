@@ -1,11 +1,15 @@
 // Replays recorded answers of the published Rust, and DWARF's worked examples, from standard input (docs/RECORDS.md has the form of a record): makes
 // each call, and says for each group how many records there are and how many were answered otherwise.
+mod buffer;
+mod cursor;
 mod debug;
+mod function;
 mod parsing;
+mod records;
 mod table;
 
+use crate::records::Asked;
 use libc::STDOUT_FILENO;
-use replay_records::Asked;
 
 struct Tally {
     all: u64,
@@ -26,22 +30,22 @@ fn report(name: &[u8], t: Tally) -> Tally {
 fn judge(record: &[u8], n: Asked) -> bool {
     let call = n.call;
     match call {
-        15 => replay_function::read_functions(record, n),
-        16 => replay_function::read_function(record, n),
-        17 => replay_function::refresh_functions(record, n),
-        18 => replay_function::function_meets(record, n),
+        15 => function::read_functions(record, n),
+        16 => function::read_function(record, n),
+        17 => function::refresh_functions(record, n),
+        18 => function::function_meets(record, n),
         19 => table::read_u32_table(record, n),
         20 => table::read_pair_table(record, n),
         21 => table::decode_strings(record, n),
         22 => table::string_bytes(record, n),
-        23 => replay_buffer::read_literal(record, n),
-        24 => replay_buffer::read_series(record, n),
-        25 => replay_buffer::read_object(record, n),
+        23 => buffer::read_literal(record, n),
+        24 => buffer::read_series(record, n),
+        25 => buffer::read_object(record, n),
         26 => parsing::read_handlers(record, n),
         27 => parsing::trailing_sections(record, n),
         28 => debug::read_debug(record, n),
-        29 => replay_function::function_ground(record, n),
-        _ => replay_cursor::judge(record, n),
+        29 => function::function_ground(record, n),
+        _ => cursor::judge(record, n),
     }
 }
 
@@ -49,11 +53,11 @@ fn turn(record: &[u8], t: Tally) -> Tally {
     if record.len() == 0 {
         return t;
     }
-    let n = replay_records::head(record);
+    let n = records::head(record);
     if n.call == 0 {
-        return report(replay_records::field(record, 1), t);
+        return report(records::field(record, 1), t);
     }
-    let differs = replay_records::truth(!judge(record, n));
+    let differs = records::truth(!judge(record, n));
     Tally {
         all: std::num::wrapping_add_u64(t.all, 1),
         bad: std::num::wrapping_add_u64(t.bad, differs),
@@ -66,8 +70,8 @@ fn replay(s: &[u8]) {
     let mut at: usize = 0;
     let mut left = s.len();
     while 0 < left {
-        t = turn(replay_records::bytes(s, at), t);
-        at = replay_records::past(s, at);
+        t = turn(records::bytes(s, at), t);
+        at = records::past(s, at);
         left -= 1;
     }
 }

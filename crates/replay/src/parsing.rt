@@ -1,10 +1,10 @@
 // Handlers and trailing sections.
-use replay_records::Asked;
-use replay_records::FILL;
-use replay_records::field;
-use replay_records::given;
-use replay_records::leaves;
-use replay_records::lent;
+use crate::records::Asked;
+use crate::records::FILL;
+use crate::records::field;
+use crate::records::given;
+use crate::records::leaves;
+use crate::records::lent;
 
 // Asked: words lent; count. Given: the functions' words. The answer: code, rows.
 pub(crate) fn read_handlers(record: &[u8], n: Asked) -> bool {

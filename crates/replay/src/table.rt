@@ -1,12 +1,12 @@
 // String tables.
-use replay_records::Asked;
-use replay_records::FILL;
-use replay_records::are;
-use replay_records::bytes_are;
-use replay_records::field;
-use replay_records::given;
-use replay_records::leaves;
-use replay_records::lent;
+use crate::records::Asked;
+use crate::records::FILL;
+use crate::records::are;
+use crate::records::bytes_are;
+use crate::records::field;
+use crate::records::given;
+use crate::records::leaves;
+use crate::records::lent;
 
 // Asked: cursor, words lent; count. The answer: code, cursor.
 pub(crate) fn read_u32_table(record: &[u8], n: Asked) -> bool {

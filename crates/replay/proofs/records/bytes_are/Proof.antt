@@ -1,8 +1,8 @@
 use Prim.Native.Nat.{_-_, _≤_}
 use lib.ListN.{length}
 use borrow.Author.Needs.{needs}
-use Rattle.replay_records.proofs.bytes_are.Statement.{statement}
-use Rattle.replay_records.proofs.bytes_are.Tie as tie
+use Rattle.replay.proofs.records.bytes_are.Statement.{statement}
+use Rattle.replay.proofs.records.bytes_are.Tie as tie
 
 -- the bytes in front of i are the same, of which no contract speaks: only the bound is kept
 abbrev Inv-loop : tie.InvT-loop

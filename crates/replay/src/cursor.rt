@@ -1,9 +1,9 @@
 // The cursor layer. Asked: the cursor; a length, a target or an alignment, or the value of a signed number or a float. The answer: code, cursor, value
 // (1 if it is the one asked) and 0, or a span's start and length.
-use replay_records::Asked;
-use replay_records::are;
-use replay_records::field;
-use replay_records::truth;
+use crate::records::Asked;
+use crate::records::are;
+use crate::records::field;
+use crate::records::truth;
 
 // What a call answered, and left in what it was lent.
 struct Seen {
@@ -37,7 +37,7 @@ fn unsigned(call: u64, s: &[u8], from: usize) -> Seen {
 }
 
 // Any NaN is as good as another; the sign of a zero counts.
-pub fn same_float(v: f64, w: f64) -> bool {
+pub(crate) fn same_float(v: f64, w: f64) -> bool {
     if v == w {
         1.0 / v == 1.0 / w
     } else {
@@ -122,7 +122,7 @@ fn see(call: u64, s: &[u8], at: usize, argument: u64) -> Seen {
     }
 }
 
-pub fn judge(record: &[u8], n: Asked) -> bool {
+pub(crate) fn judge(record: &[u8], n: Asked) -> bool {
     let r = see(n.call, field(record, 1), n.a as usize, n.b);
     let answer = [r.code, r.at as u64, r.value, r.more as u64];
     are(record, 2, &answer)

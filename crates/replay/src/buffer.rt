@@ -1,20 +1,20 @@
 // Literals.
+use crate::cursor::same_float;
+use crate::records::Asked;
+use crate::records::FILL;
+use crate::records::FILL_LONG;
+use crate::records::are;
+use crate::records::bytes_are;
+use crate::records::field;
+use crate::records::leaves;
+use crate::records::lent;
+use crate::records::lent_longs;
+use crate::records::truth;
+use crate::records::words_are;
 use hbc_buffer_object::Object;
-use replay_cursor::same_float;
-use replay_records::Asked;
-use replay_records::FILL;
-use replay_records::FILL_LONG;
-use replay_records::are;
-use replay_records::bytes_are;
-use replay_records::field;
-use replay_records::leaves;
-use replay_records::lent;
-use replay_records::lent_longs;
-use replay_records::truth;
-use replay_records::words_are;
 
 // Asked: cursor, tag, a float's bits. The answer: code, cursor, kind, word, 1 if the float is the one asked.
-pub fn read_literal(record: &[u8], n: Asked) -> bool {
+pub(crate) fn read_literal(record: &[u8], n: Asked) -> bool {
     let mut at = n.a as usize;
     let mut kind: u32 = 0;
     let mut number: f64 = 0.0;
@@ -33,7 +33,7 @@ pub fn read_literal(record: &[u8], n: Asked) -> bool {
 }
 
 // Asked: words lent of kinds and of payloads; offset, count.
-pub fn read_series(record: &[u8], n: Asked) -> bool {
+pub(crate) fn read_series(record: &[u8], n: Asked) -> bool {
     let mut kinds = [FILL; 320];
     let mut payloads = [FILL_LONG; 320];
     let code = hbc_c_buffer::read_series(
@@ -61,7 +61,7 @@ fn is(record: &[u8], o: Object) -> bool {
 }
 
 // Asked besides: 1 for keys, 0 for values. The keys are the input, the values stand behind the tables.
-pub fn read_object(record: &[u8], n: Asked) -> bool {
+pub(crate) fn read_object(record: &[u8], n: Asked) -> bool {
     let mut kinds = [FILL; 320];
     let mut payloads = [FILL_LONG; 320];
     let o = hbc_buffer_object::read_object(

@@ -1,7 +1,7 @@
 use Prim.Native.Nat.{_-_, _≤_}
 use borrow.Author.Needs.{needs}
-use Rattle.replay_records.proofs.place.Statement.{statement}
-use Rattle.replay_records.proofs.place.Tie as tie
+use Rattle.replay.proofs.records.place.Statement.{statement}
+use Rattle.replay.proofs.records.place.Tie as tie
 
 -- so many fields were passed: only the bound is kept
 abbrev Inv-loop : tie.InvT-loop

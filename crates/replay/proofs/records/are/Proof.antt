@@ -1,10 +1,10 @@
 use Prim.Native.Nat.{_-_, _≤_}
 use lib.ListN.{length}
 use borrow.Author.Needs.{needs}
-use Rattle.replay_records.proofs.words_are.Statement.{statement}
-use Rattle.replay_records.proofs.words_are.Tie as tie
+use Rattle.replay.proofs.records.are.Statement.{statement}
+use Rattle.replay.proofs.records.are.Tie as tie
 
--- the words in front of i are the ones listed, of which no contract speaks: only the bound is kept
+-- the numbers in front of i are the ones listed, of which no contract speaks: only the bound is kept
 abbrev Inv-loop : tie.InvT-loop
 Inv-loop «record» k t list at₀ i₀ at i = i ≤ length t
 
@@ -20,14 +20,11 @@ loop-holds c = search needs
 listed-requires : tie.Need-listed-requires Inv-loop μ-loop
 listed-requires c κs = search needs
 
-mul-wide : tie.Need-mul-wide Inv-loop μ-loop
-mul-wide c = search needs
+mul-if1 : tie.Need-mul-if1 Inv-loop μ-loop
+mul-if1 c = search needs
 
-shared-slice-read-wide : tie.Need-shared-slice-read-wide Inv-loop μ-loop
-shared-slice-read-wide c = search needs
-
-wide-requires : tie.Need-wide-requires Inv-loop μ-loop
-wide-requires c κs = search needs
+shared-slice-read-if1 : tie.Need-shared-slice-read-if1 Inv-loop μ-loop
+shared-slice-read-if1 c = search needs
 
 returns : tie.Need-returns Inv-loop μ-loop
 returns c = search needs
@@ -44,8 +41,8 @@ loop-again c = search needs
 returns-2 : tie.Need-returns-2 Inv-loop μ-loop
 returns-2 c = search needs
 
-pub words-are-spec : {M : Type 1} → statement M
-words-are-spec =
+pub are-spec : {M : Type 1} → statement M
+are-spec =
     tie.close
     (tie.spec
     Inv-loop
@@ -53,9 +50,8 @@ words-are-spec =
     field-requires
     loop-holds
     listed-requires
-    mul-wide
-    shared-slice-read-wide
-    wide-requires
+    mul-if1
+    shared-slice-read-if1
     returns
     add-i
     loop-less

@@ -4,13 +4,13 @@ use hbc_io::ReadSpan;
 use hbc_io_leb::ReadUleb;
 
 // What a word of a lent table holds before a call.
-pub const FILL: u32 = 0xA5A5_A5A5;
+pub(crate) const FILL: u32 = 0xA5A5_A5A5;
 
 // The same of a table of 64-bit words.
-pub const FILL_LONG: u64 = 0xA5A5_A5A5_A5A5_A5A5;
+pub(crate) const FILL_LONG: u64 = 0xA5A5_A5A5_A5A5_A5A5;
 
 // The field at a place: how many bytes, and they.
-pub fn bytes(s: &[u8], at: usize) -> &[u8] {
+pub(crate) fn bytes(s: &[u8], at: usize) -> &[u8] {
     match hbc_io_strings::read_length_prefixed_string(s, Cursor { at }) {
         ReadSpan::Got(p, _) => hbc_io::part(s, p),
         ReadSpan::Refused(_, _) => &s[..0],
@@ -18,7 +18,7 @@ pub fn bytes(s: &[u8], at: usize) -> &[u8] {
 }
 
 // Where the field after it stands.
-pub fn past(s: &[u8], at: usize) -> usize {
+pub(crate) fn past(s: &[u8], at: usize) -> usize {
     match hbc_io_strings::read_length_prefixed_string(s, Cursor { at }) {
         ReadSpan::Got(_, c) => c.at,
         ReadSpan::Refused(_, _) => s.len(),
@@ -36,12 +36,12 @@ fn place(record: &[u8], k: usize) -> usize {
     at
 }
 
-pub fn field(record: &[u8], k: usize) -> &[u8] {
+pub(crate) fn field(record: &[u8], k: usize) -> &[u8] {
     bytes(record, place(record, k))
 }
 
 // A number, and where the next one stands.
-struct Number {
+pub(crate) struct Number {
     value: u64,
     next: usize,
 }
@@ -61,16 +61,16 @@ fn listed(list: &[u8], at: usize, unlisted: u64) -> Number {
 }
 
 // Which call, and what it is asked, in the order that its judge names: numbers, and such as have 32 bits.
-pub struct Asked {
-    pub call: u64,
-    pub a: u64,
-    pub b: u64,
-    pub c: u64,
-    pub d: u64,
-    pub p: u32,
-    pub q: u32,
-    pub r: u32,
-    pub s: u32,
+pub(crate) struct Asked {
+    pub(crate) call: u64,
+    pub(crate) a: u64,
+    pub(crate) b: u64,
+    pub(crate) c: u64,
+    pub(crate) d: u64,
+    pub(crate) p: u32,
+    pub(crate) q: u32,
+    pub(crate) r: u32,
+    pub(crate) s: u32,
 }
 
 fn low(v: u64) -> u32 {
@@ -78,7 +78,7 @@ fn low(v: u64) -> u32 {
 }
 
 // The first field.
-pub fn head(record: &[u8]) -> Asked {
+pub(crate) fn head(record: &[u8]) -> Asked {
     let list = field(record, 0);
     let call = listed(list, 0, 0);
     let a = listed(list, call.next, 0);
@@ -103,7 +103,7 @@ pub fn head(record: &[u8]) -> Asked {
 }
 
 // Whether these numbers are the ones listed in field k, each and no more.
-pub fn are(record: &[u8], k: usize, t: &[u64]) -> bool {
+pub(crate) fn are(record: &[u8], k: usize, t: &[u64]) -> bool {
     let list = field(record, k);
     let mut at: usize = 0;
     let mut i: usize = 0;
@@ -123,7 +123,7 @@ fn wide(x: u32) -> u64 {
 }
 
 // The same of words.
-pub fn words_are(record: &[u8], k: usize, t: &[u32]) -> bool {
+pub(crate) fn words_are(record: &[u8], k: usize, t: &[u32]) -> bool {
     let list = field(record, k);
     let mut at: usize = 0;
     let mut i: usize = 0;
@@ -138,12 +138,12 @@ pub fn words_are(record: &[u8], k: usize, t: &[u32]) -> bool {
     at == list.len()
 }
 
-pub fn truth(yes: bool) -> u64 {
+pub(crate) fn truth(yes: bool) -> u64 {
     if yes { 1 } else { 0 }
 }
 
 // So many words of a table, or all.
-pub fn lent(t: &mut [u32], n: u64) -> &mut [u32] {
+pub(crate) fn lent(t: &mut [u32], n: u64) -> &mut [u32] {
     let k = n as usize;
     if t.len() < k {
         return t;
@@ -152,7 +152,7 @@ pub fn lent(t: &mut [u32], n: u64) -> &mut [u32] {
     &mut t[first..k]
 }
 
-pub fn lent_longs(t: &mut [u64], n: u64) -> &mut [u64] {
+pub(crate) fn lent_longs(t: &mut [u64], n: u64) -> &mut [u64] {
     let k = n as usize;
     if t.len() < k {
         return t;
@@ -162,7 +162,7 @@ pub fn lent_longs(t: &mut [u64], n: u64) -> &mut [u64] {
 }
 
 // The words that a call is given in field k, of four bytes each, read into a table that has room for them.
-pub fn given<'r, 't>(record: &'r [u8], k: usize, table: &'t mut [u32]) -> &'t mut [u32] {
+pub(crate) fn given<'r, 't>(record: &'r [u8], k: usize, table: &'t mut [u32]) -> &'t mut [u32] {
     let words = field(record, k);
     let n = (words.len() / 4) as u64;
     let mut at: usize = 0;
@@ -171,13 +171,13 @@ pub fn given<'r, 't>(record: &'r [u8], k: usize, table: &'t mut [u32]) -> &'t mu
 }
 
 // Whether a call answered two numbers, and left its table, as is recorded.
-pub fn leaves(record: &[u8], code: u64, more: usize, table: &[u32]) -> bool {
+pub(crate) fn leaves(record: &[u8], code: u64, more: usize, table: &[u32]) -> bool {
     let answer = [code, more as u64];
     are(record, 2, &answer) && words_are(record, 3, table)
 }
 
 // Whether these bytes are field k.
-pub fn bytes_are(record: &[u8], k: usize, b: &[u8]) -> bool {
+pub(crate) fn bytes_are(record: &[u8], k: usize, b: &[u8]) -> bool {
     let a = field(record, k);
     if a.len() != b.len() {
         return false;

@@ -1,15 +1,15 @@
 // Function tables. Asked: start, both ends of the span, words lent; layout, count or number. The answer: code, 0.
+use crate::records::Asked;
+use crate::records::FILL;
+use crate::records::are;
+use crate::records::field;
+use crate::records::leaves;
+use crate::records::lent;
 use hbc_function_header::Function;
 use hbc_function_record::Layout;
 use hbc_function_record::WIDTH;
-use replay_records::Asked;
-use replay_records::FILL;
-use replay_records::are;
-use replay_records::field;
-use replay_records::leaves;
-use replay_records::lent;
 
-pub fn read_functions(record: &[u8], n: Asked) -> bool {
+pub(crate) fn read_functions(record: &[u8], n: Asked) -> bool {
     let mut table = [FILL; 256];
     let code = hbc_c_function::read_functions(
         field(record, 1),
@@ -21,7 +21,7 @@ pub fn read_functions(record: &[u8], n: Asked) -> bool {
     leaves(record, code, 0, &table)
 }
 
-pub fn refresh_functions(record: &[u8], n: Asked) -> bool {
+pub(crate) fn refresh_functions(record: &[u8], n: Asked) -> bool {
     let mut table = [FILL; 256];
     let code = hbc_c_function::refresh_functions(
         field(record, 1),
@@ -35,7 +35,7 @@ pub fn refresh_functions(record: &[u8], n: Asked) -> bool {
     leaves(record, code, 0, &table)
 }
 
-pub fn function_meets(record: &[u8], n: Asked) -> bool {
+pub(crate) fn function_meets(record: &[u8], n: Asked) -> bool {
     let code = hbc_c_function::function_meets(
         field(record, 1),
         n.p,
@@ -49,7 +49,7 @@ pub fn function_meets(record: &[u8], n: Asked) -> bool {
 }
 
 // The places where they are told: code, header, large header.
-pub fn function_ground(record: &[u8], n: Asked) -> bool {
+pub(crate) fn function_ground(record: &[u8], n: Asked) -> bool {
     let mut header: usize = 0;
     let mut large: usize = 0;
     let code = hbc_c_function::function_ground(
@@ -73,7 +73,7 @@ fn layout_of(n: u32) -> Layout {
 }
 
 // The record itself, not the row that the boundary copies.
-pub fn read_function(record: &[u8], n: Asked) -> bool {
+pub(crate) fn read_function(record: &[u8], n: Asked) -> bool {
     match hbc_function_header::read_function(field(record, 1), layout_of(n.p), n.a as usize, n.q) {
         Function::Read(r) => {
             let row = hbc_function_record::row_words(r);
