@@ -1,13 +1,18 @@
 // Function tables. Asked: start, both ends of the span, words lent; layout, count or number. The answer: code, 0.
 use crate::records::Asked;
 use crate::records::FILL;
+use crate::records::FILL_BYTE;
 use crate::records::NONE;
 use crate::records::answers;
+use crate::records::bytes_are;
+use crate::records::given;
 use crate::records::leaves;
 use crate::records::lent;
+use crate::records::lent_bytes;
 use hbc_function_header::Function;
 use hbc_function_record::Layout;
 use hbc_function_record::WIDTH;
+use hbc_io::Span;
 
 pub(crate) fn read_functions(record: &[u8], s: &[u8], n: Asked) -> bool {
     let mut table = [FILL; 256];
@@ -33,6 +38,17 @@ pub(crate) fn function_ground(record: &[u8], s: &[u8], n: Asked) -> bool {
     let mut large: usize = 0;
     let code = hbc_c_function::function_ground(s, n.p, n.a, n.q, &mut header, &mut large);
     answers(record, code, header, large, NONE, NONE)
+}
+
+// Asked: start, the place for large headers, 0, bytes lent; layout, count. The input is the rows' words.
+pub(crate) fn write_functions(record: &[u8], n: Asked) -> bool {
+    let mut table = [0u32; 256];
+    let rows = given(record, 1, &mut table);
+    let mut buffer = [FILL_BYTE; 256];
+    let b = lent_bytes(&mut buffer, n.d);
+    let code = hbc_c_function::write_functions(rows, n.p, n.a, n.q, n.b, b);
+    let all = Span { start: 0, len: n.d };
+    answers(record, code, 0, NONE, NONE, NONE) & bytes_are(record, 3, hbc_io::part(&buffer, all))
 }
 
 fn layout_of(n: u32) -> Layout {

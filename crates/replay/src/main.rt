@@ -46,6 +46,7 @@ fn judge(record: &[u8], n: Asked) -> bool {
         27 => parsing::trailing_sections(record, s, n),
         28 => debug::read_debug(record, s, n),
         29 => function::function_ground(record, s, n),
+        30 => function::write_functions(record, n),
         _ => cursor::judge(record, s, n),
     }
 }

@@ -9,6 +9,9 @@ pub(crate) const FILL: u32 = 0xA5A5_A5A5;
 // The same of a table of 64-bit words.
 pub(crate) const FILL_LONG: u64 = 0xA5A5_A5A5_A5A5_A5A5;
 
+// And of a buffer.
+pub(crate) const FILL_BYTE: u8 = 0xA5;
+
 // The field at a place: how many bytes, and they.
 pub(crate) fn bytes(s: &[u8], at: usize) -> &[u8] {
     match hbc_io_strings::read_length_prefixed_string(s, Cursor { at }) {
@@ -147,6 +150,14 @@ pub(crate) fn lent(t: &mut [u32], k: usize) -> &mut [u32] {
 }
 
 pub(crate) fn lent_longs(t: &mut [u64], k: usize) -> &mut [u64] {
+    if t.len() < k {
+        return t;
+    }
+    let first: usize = 0;
+    &mut t[first..k]
+}
+
+pub(crate) fn lent_bytes(t: &mut [u8], k: usize) -> &mut [u8] {
     if t.len() < k {
         return t;
     }
