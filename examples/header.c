@@ -1,6 +1,6 @@
 /* What include/hbc.h says besides its prototypes, as a caller meets it: names, what a refused call leaves, what a refused
- * refresh asks for, what stands for no large header. C99 and C++. Prints nothing; at the first test that fails its line,
- * and then ends with status 1. */
+ * refresh asks for, what stands for no large header, what is written and what is not. C99 and C++. Prints nothing; at the
+ * first test that fails its line, and then ends with status 1. */
 #include <stdio.h>
 #include <string.h>
 
@@ -29,6 +29,9 @@ static const char *name(uint64_t code)
     case HBC_REFUSED_BAD_SPAN: return "BAD_SPAN";
     case HBC_REFUSED_TOO_FEW_TO_READ: return "TOO_FEW_TO_READ";
     case HBC_REFUSED_NO_SUCH_LAYOUT: return "NO_SUCH_LAYOUT";
+    case HBC_REFUSED_BAD_ROW: return "BAD_ROW";
+    case HBC_REFUSED_BAD_INFO_OFFSET: return "BAD_INFO_OFFSET";
+    case HBC_REFUSED_LARGE_BEFORE_END: return "LARGE_BEFORE_END";
     default: return "unnamed";
     }
 }
@@ -122,6 +125,65 @@ static int ground(void)
     return 0;
 }
 
+/* Whether bytes from .. to - 1 of a buffer that was filled with 0xAB are as they were. */
+static int stayed(const uint8_t *buffer, size_t from, size_t to)
+{
+    while (from < to)
+        if (buffer[from++] != 0xAB)
+            return 0;
+    return 1;
+}
+
+/* Two rows of which the second is too wide for its header, at byte 1 of a buffer: what is written and read back, and
+ * that all else stays; the info_offset that a modern row must have. */
+static int written(void)
+{
+    uint32_t layout, rows[2 * HBC_FUNCTION_WORDS], again[2 * HBC_FUNCTION_WORDS];
+    const size_t words = sizeof rows / sizeof *rows;
+    uint8_t buffer[100];
+    for (layout = HBC_LAYOUT_LEGACY16; layout <= HBC_LAYOUT_MODERN12; layout++) {
+        const size_t own = layout == HBC_LAYOUT_LEGACY16 ? 16 : 12, size = layout == HBC_LAYOUT_LEGACY16 ? 31 : 37;
+        const size_t end = 1 + 2 * own, place = 36, last = place + size;
+        uint32_t *row = rows + HBC_FUNCTION_WORDS;
+        size_t header, large;
+        memset(rows, 0, sizeof rows);
+        rows[HBC_FUNCTION_LAYOUT] = row[HBC_FUNCTION_LAYOUT] = layout;
+        row[HBC_FUNCTION_ID] = 1;
+        row[HBC_FUNCTION_SIZE] = 1 << 15;
+        row[HBC_FUNCTION_INFO_OFFSET] = layout == HBC_LAYOUT_LEGACY16 ? 7 : (uint32_t)(place + 40);
+
+        memset(buffer, 0xAB, sizeof buffer);
+        CHECK(hbc_write_functions(rows, words, layout, 1, 2, 33, buffer, sizeof buffer) == last);
+        CHECK(stayed(buffer, 0, 1) && stayed(buffer, end, place) && stayed(buffer, last, sizeof buffer));
+        CHECK(hbc_read_functions(buffer, last, layout, 1, 2, again, words) == 2);
+        CHECK(memcmp(rows, again, sizeof rows) == 0);
+        CHECK(hbc_function_ground(buffer, last, layout, 1, 1, &header, &large) == 0);
+        CHECK(header == 1 + own && large == place);
+        /* Without the wide row the table's end is all there is, and no place for large headers is too far. */
+        CHECK(hbc_write_functions(rows, words, layout, 1, 1, SIZE_MAX, buffer, 1 + own) == 1 + own);
+
+        /* Refused, each before those that follow, which hold too. */
+        memset(buffer, 0xAB, sizeof buffer);
+        CHECK(is(hbc_write_functions(rows, words, layout, 1, 2, 33, buffer, last - 1), "TOO_FEW_ROWS"));
+        CHECK(is(hbc_write_functions(rows, words, layout, 1, 0, 0, buffer, 1), "LARGE_BEFORE_END"));
+        CHECK(is(hbc_write_functions(rows, words, layout, 1, 1, 0, buffer, 1), "LARGE_BEFORE_END"));
+        if (layout == HBC_LAYOUT_MODERN12) {
+            uint64_t code = hbc_write_functions(rows, words, layout, 1, 2, 0, buffer, 1);
+            CHECK(is(code, "BAD_INFO_OFFSET") && HBC_PLACE(code) == 1);
+        }
+        row[HBC_FUNCTION_FLAGS] = 256;
+        CHECK(is(hbc_write_functions(rows, words, layout, 1, 2, 0, buffer, 1), "BAD_ROW"));
+        CHECK(HBC_PLACE(hbc_write_functions(rows, words, layout, 1, 2, 0, buffer, 1)) == 1);
+        CHECK(is(hbc_write_functions(rows, words - 1, layout, 1, 2, 0, buffer, 1), "TOO_FEW_TO_READ"));
+        CHECK(is(hbc_write_functions(rows, words, layout, 1, UINT32_MAX, 0, buffer, 1), "TOO_FEW_TO_READ"));
+        CHECK(is(hbc_write_functions(rows, 0, layout, 2, 2, 0, buffer, 1), "PAST_END"));
+        CHECK(is(hbc_write_functions(rows, 0, layout, SIZE_MAX, 2, 0, buffer, (size_t)HBC_LIMIT + 1), "TOO_LONG"));
+        CHECK(is(hbc_write_functions(rows, 0, 2, 2, 2, 0, buffer, (size_t)HBC_LIMIT + 1), "NO_SUCH_LAYOUT"));
+        CHECK(stayed(buffer, 0, sizeof buffer));
+    }
+    return 0;
+}
+
 /* The numbers of the version are those of its text. */
 static int version(void)
 {
@@ -130,4 +192,4 @@ static int version(void)
     return 0;
 }
 
-int main(void) { return refusals() || left() || refresh() || ground() || version(); }
+int main(void) { return refusals() || left() || refresh() || ground() || written() || version(); }

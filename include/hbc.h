@@ -3,11 +3,12 @@
  *
  * Common to all calls
  *
- * - Bytes that are lent are a pointer and a count: `s`, `s_len`. They are only read. The pointer must stand for that
- *   many bytes, and must not be NULL, not even where the count is 0. A table is lent in the same way, `table` and
- *   `table_len`; the count is one of words, not of rows or bytes. Where it is const it is only read.
- * - A number that is lent (`size_t *at`, `uint32_t *value`, ..), and a table that is not const, must not be NULL, and
- *   must not overlap the bytes or anything else that is lent.
+ * - Bytes that are lent are a pointer and a count: `s`, `s_len`. The pointer must stand for that many bytes, and must
+ *   not be NULL, not even where the count is 0. A table is lent in the same way, `table` and `table_len`; the count is
+ *   one of words, not of rows or bytes. Where they are const they are only read: all bytes are but the `buffer` of
+ *   hbc_write_functions.
+ * - A number that is lent (`size_t *at`, `uint32_t *value`, ..), and a table or a buffer that is not const, must not be
+ *   NULL, and must not overlap the bytes or anything else that is lent.
  * - Tables and numbers are aligned as their type is: 4 bytes for uint32_t, 8 for uint64_t, size_t and double. Bytes may
  *   lie anywhere.
  * - `at` is the cursor: the position in the bytes, from 0. It is read, and holds the cursor afterwards. It may hold
@@ -16,8 +17,9 @@
  *   refusal's number times 2^32, plus its place. HBC_NUMBER and HBC_PLACE take it apart. The place is 0 unless it is
  *   named below.
  * - A value is written only where the call is accepted; a refused call leaves the lent values (`*start` and `*size`
- *   among them) and every word of the lent tables as they were, and the cursor too, unless it says otherwise below.
- * - Every call ends, on every input, and never reads outside the bytes lent.
+ *   among them), every word of the lent tables and every byte of the buffer as they were, and the cursor too, unless it
+ *   says otherwise below.
+ * - Every call ends, on every input, and never reads or writes outside what is lent.
  * - Nothing is allocated, and no call has data of its own: calls on different tables and numbers may run in parallel,
  *   on the same bytes too. What the archive needs besides is memcpy and memset.
  */
@@ -46,13 +48,16 @@
 #define HBC_REFUSED_SERIES_PAST_END 7   /* a series begins at or past the end, and is not empty */
 #define HBC_REFUSED_BAD_SPAN 10         /* a span is reversed, or goes past the end */
 #define HBC_REFUSED_TOO_FEW_TO_READ 11  /* fewer rows are lent to be read than the count says */
-#define HBC_REFUSED_TOO_FEW_ROWS 4      /* a lent table has too few rows */
+#define HBC_REFUSED_BAD_ROW 13          /* a row to be written says what no header of its layout can */
+#define HBC_REFUSED_BAD_INFO_OFFSET 14  /* a modern row's info_offset is not its large header's end, rounded up to 4 */
+#define HBC_REFUSED_LARGE_BEFORE_END 15 /* the place for large headers is before the table's end */
+#define HBC_REFUSED_TOO_FEW_ROWS 4      /* a lent table has too few rows, or the buffer too few bytes */
 #define HBC_REFUSED_CUT 3               /* a read needs bytes past the end */
 #define HBC_REFUSED_LEB128_TOO_LONG 5   /* the tenth byte of a LEB128 number has bit 7 set */
 #define HBC_REFUSED_NO_OVERFLOW_PAIR 8  /* no overflow entry is left */
 #define HBC_REFUSED_NO_ZERO 9           /* a zero-ended string has no zero */
 
-/* The most bytes that are read. */
+/* The most bytes that are read, and that a buffer may have. */
 #define HBC_LIMIT 1073741824
 
 /* The word that stands for no parent and for no such string. */
@@ -201,6 +206,35 @@ uint64_t hbc_function_ground(const uint8_t *file, size_t file_len, uint32_t layo
  * `id` as place if its header is not wholly in the file. */
 uint64_t hbc_function_meets(const uint8_t *file, size_t file_len, uint32_t layout, size_t start, uint32_t id,
                             size_t low, size_t high);
+
+/* Writes rows 0 to count - 1 of `rows` as a table of headers into `buffer`, from byte `start` on: hbc_read_functions
+ * with the same layout, start and count reads these rows back from it.
+ *
+ * A row goes inline, into its header alone, exactly if bit 5 of its flags is clear, a modern one's info_offset is 0,
+ * and no field has more bits than the header has for it: in a legacy one offset 25, param_count 7, size 15, name 17,
+ * info_offset 25, frame_size 7, environment_size, read_index, write_index and flags 8; in a modern one offset 25,
+ * param_count 5, loop_depth 2, size 14, name 8, number_reg and non_ptr_reg 5, frame_size and read_cache 8, write_cache
+ * 6, new_object and private_name 1, flags 8. Every other row goes to a large header, of 31 bytes or 37, and its own
+ * header has that place, bit 5 of the flags, and zeros. Large headers follow one another in the order of their rows,
+ * each at the next multiple of 4: the first at `large` rounded up, the next one 32 or 40 bytes on.
+ * A modern large header does not store its info_offset: it is the place behind the header, rounded up to a multiple of
+ * 4. The row must have just that, for the first one `large` rounded up plus 40, for the next one 40 more, and so on; so
+ * an edit that makes a row too wide for its header gives it an info_offset too. What stands there is not moved, and the
+ * next large header begins there: of several only the last can have handlers of its own.
+ *
+ * Accepted, the answer is where what was written ends: with the table, or with the last large header if there is one.
+ * Other bytes stay, those between large headers too; what stands where a large header goes is overwritten, so give a
+ * `large` behind all that the file still needs, such as the file's length.
+ * Refused, no byte is written.
+ * Refused 12; 1 if the buffer is longer than HBC_LIMIT; 2 if `start` is past its end; 11 if fewer than `count` rows are
+ * lent; then, each looked for in all rows before the next, 13 with the first row as place whose words 0 and 1 are not
+ * the layout and its own number, whose last four words are not 0 in legacy, or that has more than 255 in flags,
+ * read_index or write_index (legacy), in flags, read_cache, write_cache, new_object or private_name (modern); 14 with
+ * the first modern row as place that goes to a large header and has another info_offset; 15 if `large`, as it is given,
+ * is before the table's end, also where no row needs it; 4 if the buffer ends before what is to be written does.
+ * `large` and `count` may be any numbers. */
+uint64_t hbc_write_functions(const uint32_t *rows, size_t rows_len, uint32_t layout, size_t start, uint32_t count,
+                             size_t large, uint8_t *buffer, size_t buffer_len);
 
 /* ---- String tables ---- */
 

@@ -1,5 +1,5 @@
 // The calls on function headers.
-ghost use Rattle.hbc_c_function.specs.Function.{ToldFunctions, ToldRefresh, ToldFunction, ToldGround, ToldMeets, places};
+ghost use Rattle.hbc_c_function.specs.Function.{ToldFunctions, ToldRefresh, ToldWrite, ToldFunction, ToldGround, ToldMeets, places};
 
 #[no_mangle]
 pub extern "C" fn hbc_read_functions(
@@ -27,6 +27,21 @@ pub extern "C" fn hbc_refresh_functions(
     ensures { λ r. ⌜ ToldRefresh (now (file .entry)) layout start count low high (now (table .entry)) r (now (table .exit)) ⌝ }
 {
     hbc_c_function::refresh_functions(file, layout, start, count, low, high, table)
+}
+
+// The headers of lent rows into a lent buffer.
+#[no_mangle]
+pub extern "C" fn hbc_write_functions(
+    rows: &[u32],
+    layout: u32,
+    start: usize,
+    count: u32,
+    large: usize,
+    buffer: &mut [u8],
+) -> u64
+    ensures { λ r. ⌜ ToldWrite (now (rows .entry)) layout start count large (now (buffer .entry)) r (now (buffer .exit)) ⌝ }
+{
+    hbc_c_function::write_functions(rows, layout, start, count, large, buffer)
 }
 
 // One function, into the first row of the table.

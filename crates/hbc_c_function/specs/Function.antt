@@ -17,6 +17,7 @@ use Rattle.hbc_function_header.specs.Header.{saysReading, functionAt, opened, f
 use Rattle.hbc_function_header.specs.Meets.{functionMeets}
 use Rattle.hbc_function.specs.Table.{rowBy, roomed, ReadFunctions}
 use Rattle.hbc_function.specs.Refresh.{saysRefreshed, RefreshFunctions}
+use Rattle.hbc_function_write.specs.Write.{saysWrote, WriteFunctions}
 use Rattle.hbc_c_code.specs.Code.{codeOf, codeIn, always}
 use Rattle.hbc_c_code.specs.Told.{Told}
 
@@ -41,6 +42,14 @@ TableRefreshed s layout start count low high before = Told (λ n. n) saysRefresh
 
 abbrev pub ToldRefresh : List ℕ → ℕ → ℕ → ℕ → ℕ → ℕ → List ℕ → ℕ → List ℕ → Type 0
 ToldRefresh s layout start count low high before = ByLayout layout (λ l. TableRefreshed s l start count low high before) before
+
+-- ---- a table written: the answer is the end of what was written
+
+abbrev pub TableWritten : List ℕ → Layout → ℕ → ℕ → ℕ → List ℕ → ℕ → List ℕ → Type 0
+TableWritten rows layout start count large before = Told (λ n. n) saysWrote (WriteFunctions rows layout start count large before)
+
+abbrev pub ToldWrite : List ℕ → ℕ → ℕ → ℕ → ℕ → List ℕ → ℕ → List ℕ → Type 0
+ToldWrite rows layout start count large before = ByLayout layout (λ l. TableWritten rows l start count large before) before
 
 -- ---- one function into the first row: 1, 2, 4, then the function; accepted, the answer is 1
 

@@ -1,10 +1,10 @@
 // The calls on function headers for C and Rust, each behind an export of hbc_c. A layout is a number, 0 legacy and 1 modern; where
-// rows are written the low half of an accepted answer is how many.
+// rows are written the low half of an accepted answer is how many, where bytes are, their end.
 ghost use mathlib.Core.Path.{_≡_};
 ghost use Rattle.hbc_function_header.specs.Meets.{functionMeets};
 ghost use Rattle.hbc_c_code.specs.Code.{codeIn};
-ghost use Rattle.hbc_c_function.specs.Function.{truth, places, TableRead, TableRefreshed, RowRead, GroundFound};
-ghost use Rattle.hbc_c_function.specs.Function.{ToldFunctions, ToldRefresh, ToldFunction, ToldGround, ToldMeets};
+ghost use Rattle.hbc_c_function.specs.Function.{truth, places, TableRead, TableRefreshed, TableWritten, RowRead, GroundFound};
+ghost use Rattle.hbc_c_function.specs.Function.{ToldFunctions, ToldRefresh, ToldWrite, ToldFunction, ToldGround, ToldMeets};
 use hbc_c_code::code;
 use hbc_function::Refreshed;
 use hbc_function_header::Function;
@@ -14,6 +14,7 @@ use hbc_function_header::Reading;
 use hbc_function_record::Layout;
 use hbc_function_record::WIDTH;
 use hbc_function_record::row_words;
+use hbc_function_write::Wrote;
 use hbc_io::LIMIT;
 use hbc_io::refuse;
 use hbc_rows::put_row;
@@ -75,6 +76,41 @@ pub fn refresh_functions(
     }
     if layout == 1 {
         return refresh_table(file, Layout::Modern12, start, count, low, high, table);
+    }
+    code(refuse(12, 0))
+}
+
+fn write_table(
+    rows: &[u32],
+    layout: Layout,
+    start: usize,
+    count: u32,
+    large: usize,
+    buffer: &mut [u8],
+) -> u64
+    ensures { λ r. ⌜ TableWritten (now (rows .entry)) layout start count large (now (buffer .entry)) r (now (buffer .exit)) ⌝ }
+{
+    match hbc_function_write::write_functions(rows, layout, start, count, large, buffer) {
+        Wrote::To(end) => end as u64,
+        Wrote::Refused(r) => code(r),
+    }
+}
+
+pub fn write_functions(
+    rows: &[u32],
+    layout: u32,
+    start: usize,
+    count: u32,
+    large: usize,
+    buffer: &mut [u8],
+) -> u64
+    ensures { λ r. ⌜ ToldWrite (now (rows .entry)) layout start count large (now (buffer .entry)) r (now (buffer .exit)) ⌝ }
+{
+    if layout == 0 {
+        return write_table(rows, Layout::Legacy16, start, count, large, buffer);
+    }
+    if layout == 1 {
+        return write_table(rows, Layout::Modern12, start, count, large, buffer);
     }
     code(refuse(12, 0))
 }

@@ -48,6 +48,9 @@ use Rattle.hbc_claims_function.proofs.Packed as packs
 use Rattle.hbc_claims_function.proofs.Refreshed as fresh
 use Rattle.hbc_claims_function.proofs.Tables.{filled, rewritten}
 use Rattle.hbc_claims_function.proofs.Unique as u-function
+use Rattle.hbc_claims_function.proofs.Written as written
+use Rattle.hbc_claims_function.proofs.OneOutput as outputs
+use Rattle.hbc_claims_function.specs.Written.{Written}
 use Rattle.hbc_claims_table.proofs.Tables as r-table
 use Rattle.hbc_claims_table.proofs.Strings as r-strings
 use Rattle.hbc_claims_table.proofs.Unique as u-table
@@ -68,7 +71,7 @@ use Rattle.hbc_claims_debug.proofs.Left as r-debug
 use Rattle.hbc_claims_debug.proofs.Unique as u-debug
 use Rattle.hbc_claims_c.proofs.Left as r-c
 use Rattle.hbc_claims_c.proofs.Unique as u-c
-use Rattle.hbc_claims.specs.Theorems.{Unique, Theorems, AsFresh, CountedLeft, CursorLeft, DebugRead, Edited, Exact, ExportedLeft, HandlersRead, Meets, ObjectRead, Packed, Reader, Reads, Refreshes, SectionsRead, SeriesRead, StringsRead, TableRead, TablesLeft, Whole}
+use Rattle.hbc_claims.specs.Theorems.{Unique, Theorems, AsFresh, CountedLeft, CursorLeft, DebugRead, Edited, Exact, ExportedLeft, HandlersRead, Meets, ObjectRead, Packed, Reader, Reads, Refreshes, SectionsRead, SeriesRead, StringsRead, TableRead, TablesLeft, Whole, Writes}
 use Rattle.hbc_claims.proofs.Cases.{hold}
 use Rattle.hbc_claims.proofs.Unique as u-listing
 
@@ -144,6 +147,7 @@ tables-left k = record {
   read-functions = λ s layout start count t t′ v. v .leaves;
   refresh-functions = λ s layout start count low high t t′ v. v .leaves;
   function-row = λ s layout start i t t′ v. v .leaves;
+  write-functions = λ rows layout start count large b b′ v. v .leaves;
   read-series = λ s offset count ks ps ks′ ps′. r-buffer.series-left s offset count;
   object = λ keys values b offset count ks ps o ks′ ps′. r-buffer.object-left keys values b offset count;
   handlers = λ s functions count t t′ v. v .leaves;
@@ -175,6 +179,7 @@ counted-left s r h = record {
   hbc-read-functions = λ l start count t. r-c.hbc-functions l s start t h count;
   hbc-refresh-functions = λ l start count low high t. r-c.hbc-refresh l s start t h count low high;
   hbc-read-function = λ l start i t. r-c.hbc-function l s start t h i;
+  hbc-write-functions = λ rows l start count large. r-c.hbc-write l rows start count large s h;
   hbc-decode-strings = λ count kinds small overflow t k. r-c.hbc-strings count kinds small overflow s t k h;
   hbc-read-series = λ offset count ks ps. r-c.hbc-series s offset count ks ps h;
   hbc-read-object = λ keys values n offset count ks ps. r-c.hbc-object keys values n offset count ks ps h;
@@ -264,6 +269,10 @@ debug-read file offset t k t′ v = record {
   past = debug-rows.past-rows file offset t k t′ v;
 }
 
+writes : {rows : List ℕ} {layout : Layout} {start count large : ℕ} {b : List ℕ} {e : ℕ} {b′ : List ℕ} → Written rows layout start count large b e b′
+    → Writes rows layout start count large b e b′
+writes v = record { back = written.reads-back v; header = written.headed v; kept = written.kept v; placed = written.placed v }
+
 -- every one of them
 pub theorems : Theorems
 theorems = record {
@@ -288,4 +297,7 @@ theorems = record {
   handlers-read = handlers-read;
   sections-read = sections-read;
   debug-read = debug-read;
+  writes = λ rows layout start count large b e b′ v. writes v;
+  same-rows = λ rows₁ rows₂ layout start count large₁ large₂ b₁ b₂ e₁ e₂ b′ v w. written.same-rows v w;
+  one-output = λ rows₁ rows₂ layout start count large b r q b₁ b₂ h k e. outputs.one-output rows₁ rows₂ layout start count large b h k e;
 }

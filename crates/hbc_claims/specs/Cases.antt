@@ -1,5 +1,5 @@
--- docs/FORMAT.md, section 10.1: the worked cases that are proved, P1 to P10, in one list under one statement. A case is any statement over the promises'
--- definitions.
+-- docs/FORMAT.md, section 10.1: the worked cases that are proved, P1 to P10, and W1 to W5, of which Wn is Pn the other way round, in one list under one
+-- statement. A case is any statement over the promises' definitions.
 use Prim.Native.Nat.{ℕ}
 use mathlib.Core.Path.{_≡_}
 use mathlib.Core.List.{List, [], _∷_, _++_}
@@ -16,9 +16,12 @@ use Rattle.hbc_function_record.specs.declared.Layout.the-variants.{Legacy16, Mo
 use Rattle.hbc_function_record.specs.declared.Record.{Record}
 use Rattle.hbc_function_record.specs.declared.Record.the-variants as rec
 use Rattle.hbc_function_record.specs.Record.{legacyPlace, modernPlace}
-use Rattle.hbc_function_record.specs.Row.{width}
+use Rattle.hbc_function_record.specs.Row.{width, rowWords}
 use Rattle.hbc_function_header.specs.Header.{functionAt, readFunction}
 use Rattle.hbc_function.specs.Table as functions
+use Rattle.hbc_rows.specs.Rows.{rowAt}
+use Rattle.hbc_function_bytes.specs.Bytes.{inlineBytes}
+use Rattle.hbc_function_write.specs.Write.{headOf, putHeaders, writeAnswer}
 use Rattle.hbc_table_strings.specs.Strings.{lesser, decodeAnswer, decodedRows}
 use Rattle.hbc_buffer.specs.Series.{seriesAnswer, seriesTables}
 
@@ -50,6 +53,17 @@ Reads s count used kinds payloads =
     (seriesAnswer s 0 count count count ≡ gives used)
     × (_≡_ {A = List ℕ × List ℕ} (seriesTables s 0 count (replicate count 0) (replicate count 0)) (kinds, payloads))
 
+-- a record's row written as a table of one at 0, its large header from a place on, over so many bytes of 9: the answer, and the bytes afterwards
+abbrev pub Writes : Layout → Record → ℕ → ℕ → Answer ℕ → List ℕ → Type 0
+Writes layout r large bytes answer after =
+    (writeAnswer (rowWords r) layout 0 1 large (replicate bytes 9) ≡ answer)
+    × (written (writeAnswer (rowWords r) layout 0 1 large (replicate bytes 9))
+    (putHeaders layout (rowAt width (rowWords r)) 0 large 1 (replicate bytes 9)) (replicate bytes 9) ≡ after)
+
+-- the inline header of a record's row whose large header is at a place: its bytes, and their packed place
+abbrev pub Points : Layout → Record → ℕ → List ℕ → Type 0
+Points layout r place bytes = (inlineBytes layout (headOf layout (rowAt width (rowWords r)) place 0) ≡ bytes) × (packedAt bytes layout 0 ≡ place)
+
 abbrev pub cases : List {1} (Type 0)
 cases =
     -- P1
@@ -78,4 +92,17 @@ cases =
     ∷ (valued signedOf (lebBytes (0x80 ∷ 0x7F ∷ []) (cursorAt 0)) ≡ got (negsuc 127) (cursorAt 2))
     ∷ (valued signedOf (lebBytes (0x40 ∷ []) (cursorAt 0)) ≡ got (negsuc 63) (cursorAt 1))
     ∷ (valued signedOf (lebBytes (replicate 9 0x80 ++ (0x02 ∷ [])) (cursorAt 0)) ≡ got (pos 0) (cursorAt 10))
+    -- W1: the row of P1, with no large header
+    ∷ Writes Legacy16 (rec.Legacy (legacy 256 2 10 3 0 5 1 2 3 4)) 16 16 (gives 16) (0 ∷ 1 ∷ 0 ∷ 4 ∷ 10 ∷ 128 ∷ 1 ∷ 0 ∷ 0 ∷ 0 ∷ 0 ∷ 10 ∷ 1 ∷ 2 ∷ 3 ∷ 4 ∷ [])
+    -- W2: that of P2
+    ∷ Writes Modern12 (rec.Modern (modern 256 2 1 10 3 4 5 6 7 8 1 0 4 0)) 12 12 (gives 12) (0 ∷ 1 ∷ 0 ∷ 68 ∷ 10 ∷ 192 ∷ 0 ∷ 41 ∷ 6 ∷ 7 ∷ 72 ∷ 4 ∷ [])
+    -- W3: a large header at P3's place: info_offset 1, offset 16
+    ∷ Points Legacy16 (rec.Legacy (legacy 0 0 0 0 0 0 0 0 0 32)) 65552 (16 ∷ replicate 7 0 ++ 1 ∷ replicate 6 0 ++ 32 ∷ [])
+    -- W4: one at P4's: name 1, offset 32
+    ∷ Points Modern12 (rec.Modern (modern 0 0 0 0 0 0 0 0 0 0 0 0 0 16777288)) 16777248 (32 ∷ replicate 4 0 ++ 64 ∷ replicate 5 0 ++ 32 ∷ [])
+    -- W5: P5's rows, the legacy one with its overflow bit set, else it would go inline
+    ∷ Writes Modern12 (rec.Modern (modern 0 0 0 0 0 0 0 0 0 0 0 0 0 52)) 12 49 (gives 49) (modernFile 37)
+    ∷ Writes Modern12 (rec.Modern (modern 0 0 0 0 0 0 0 0 0 0 0 0 0 52)) 12 48 (refusedAt 4 0) (replicate 48 9)
+    ∷ Writes Legacy16 (rec.Legacy (legacy 0 0 0 0 0 0 0 0 0 32)) 16 47 (gives 47) (legacyFile 30 ++ 32 ∷ [])
+    ∷ Writes Legacy16 (rec.Legacy (legacy 0 0 0 0 0 0 0 0 0 32)) 16 46 (refusedAt 4 0) (replicate 46 9)
     ∷ []

@@ -1,4 +1,4 @@
--- docs/FORMAT.md, section 1.6, each part naming its own: every theorem on calls in full: the words in eight sections, and at the end the theorems
+-- docs/FORMAT.md, section 1.6, each part naming its own: every theorem on calls in full: the words in nine sections, and at the end the theorems
 -- themselves, in one record, under the names in brackets; proofs/Proved proves them. The promises that they speak of (`ReadFunctions`, ..) are what the
 -- calls' contracts cite (docs/PROMISES.md), the terms are those of hbc_claims_law/specs/Terms. n is a cursor as a call leaves it, t′ a table.
 use Prim.Native.Nat.{ℕ, suc, _+_, _*_, _%_, _^_, _≤_, _<_}
@@ -56,6 +56,9 @@ use Rattle.hbc_function.specs.declared.Refreshed.{Refreshed}
 use Rattle.hbc_function.specs.declared.Refreshed.the-variants as refreshed
 use Rattle.hbc_function.specs.Table.{ReadFunctions}
 use Rattle.hbc_function.specs.Refresh.{saysRefreshed, RefreshFunctions}
+use Rattle.hbc_function_write.specs.declared.Wrote.{Wrote}
+use Rattle.hbc_function_write.specs.declared.Wrote.the-variants as sent
+use Rattle.hbc_function_write.specs.Write.{WriteFunctions}
 use Rattle.hbc_rows.specs.Rows.{entryAt, rowAt}
 use Rattle.hbc_rows.specs.Until.{until}
 use Rattle.hbc_table.specs.Table.{ReadTable}
@@ -89,7 +92,7 @@ use Rattle.hbc_debug.specs.Debug.{Tables, Contents, contentsAt, stringCount, co
 use Rattle.hbc_c_code.specs.Code.{codeOf}
 use Rattle.hbc_c_code.specs.Told.{Moves, Reads as ReadTold}
 use Rattle.hbc_c_io.specs.Io.{ReadsSpan}
-use Rattle.hbc_c_function.specs.Function.{Places, ToldFunctions, ToldRefresh, ToldFunction, ToldGround}
+use Rattle.hbc_c_function.specs.Function.{Places, ToldFunctions, ToldRefresh, ToldWrite, ToldFunction, ToldGround}
 use Rattle.hbc_c_table.specs.Table.{ToldTable, ToldStrings}
 use Rattle.hbc_c_buffer.specs.Buffer.{ToldLiteral, ToldSeries, ToldObject}
 use Rattle.hbc_c_parsing.specs.Parsing.{ToldHandlers, ToldSections}
@@ -102,6 +105,7 @@ use Rattle.hbc_claims_io.specs.Reader as u-reader
 use Rattle.hbc_claims_io.specs.Reader.{Lent, New, Position, Remaining, Seek, U32, Uleb128, Bytes, Part}
 use Rattle.hbc_claims_function.specs.Packed as packed
 use Rattle.hbc_claims_function.specs.Unique as u-function
+use Rattle.hbc_claims_function.specs.Written.{Written, ReadsBack, Headed, Kept, Placed}
 use Rattle.hbc_claims_table.specs.Unique as u-table
 use Rattle.hbc_claims_table.specs.Within.{Within}
 use Rattle.hbc_claims_buffer.specs.Unique as u-buffer
@@ -115,7 +119,7 @@ use Rattle.hbc_claims_c.specs.Unique as u-c
 use Rattle.hbc_claims.specs.Cases.{cases}
 use Rattle.hbc_claims.specs.Unique as u-listing
 
--- ==== 1. The worked cases: P1 to P10 of docs/FORMAT.md, section 10.1, each stated in Cases, one list (`worked`)
+-- ==== 1. The worked cases: P1 to P10, and W1 to W5, of docs/FORMAT.md, section 10.1, each stated in Cases, one list (`worked`)
 -- ==== 2. Uniqueness (`unique`) of every public call, by layers, and of every exported one: two outcomes that both meet its contract, as the checker has it,
 -- are equal: the answer, and every word or number that was lent to it; each by the one law of hbc_claims_law, what equals one thing is one thing
 pub record Unique : Type 0 where
@@ -217,6 +221,9 @@ pub record TablesLeft (k : Refusal) : Type 0 where
   pub refresh-functions : (s : List ℕ) (layout : Layout) (start count low high : ℕ) (t t′ : List ℕ)
       → RefreshFunctions s layout start count low high t (refreshed.Refused k) t′ → t′ ≡ t
   pub function-row : (s : List ℕ) (layout : Layout) (start i : ℕ) (t t′ : List ℕ) → FunctionRow s layout start i t (reading.Refused k) t′ → t′ ≡ t
+  -- the buffer of write_functions
+  pub write-functions : (rows : List ℕ) (layout : Layout) (start count large : ℕ) (b b′ : List ℕ)
+      → WriteFunctions rows layout start count large b (sent.Refused k) b′ → b′ ≡ b
   pub read-series : (s : List ℕ) (offset count : ℕ) (ks ps ks′ ps′ : List ℕ)
       → ReadSeries s offset count ks ps (series.Refused k) ks′ ps′ → (ks′ ≡ ks) × (ps′ ≡ ps)
   -- read_object; and object_part hands back no bytes
@@ -256,11 +263,14 @@ pub record ExportedLeft (s : List ℕ) (at r at′ : ℕ) : Type 1 where
       → (t′ ≡ t) × (total′ ≡ total)
   pub hbc-read-debug : (offset : ℕ) (t : Tables) (k : Counts) {k′ : Counts} {t′ : Tables} → ToldDebug s offset t k r t′ k′ → (t′ ≡ t) × (k′ ≡ k)
 
--- the exported calls that answer a count, where r tells a refusal, from 2^32 up: every lent word is as it was; l is a layout's number (`counted-left`)
+-- the exported calls that answer a count or an end, where r tells a refusal, from 2^32 up: every lent word or byte is as it was; l is a layout's number
+-- (`counted-left`)
 pub record CountedLeft (s : List ℕ) (r : ℕ) : Type 0 where
   pub hbc-read-functions : (l start count : ℕ) (t : List ℕ) {t′ : List ℕ} → count < 2 ^ 32 → ToldFunctions s l start count t r t′ → t′ ≡ t
   pub hbc-refresh-functions : (l start count low high : ℕ) (t : List ℕ) {t′ : List ℕ} → count < 2 ^ 32 → ToldRefresh s l start count low high t r t′ → t′ ≡ t
   pub hbc-read-function : (l start i : ℕ) (t : List ℕ) {t′ : List ℕ} → ToldFunction s l start i t r t′ → t′ ≡ t
+  -- s being the buffer here
+  pub hbc-write-functions : (rows : List ℕ) (l start count large : ℕ) {b′ : List ℕ} → ToldWrite rows l start count large s r b′ → b′ ≡ s
   pub hbc-decode-strings : (count : ℕ) (kinds small pairs t : List ℕ) {t′ : List ℕ} → count < 2 ^ 32 → ToldStrings count kinds small pairs s t r t′ → t′ ≡ t
   pub hbc-read-series : (offset count : ℕ) (ks ps : List ℕ) {ks′ ps′ : List ℕ} → ToldSeries s offset count ks ps r ks′ ps′ → (ks′ ≡ ks) × (ps′ ≡ ps)
   pub hbc-read-object : (keys values : List ℕ) (n offset count : ℕ) (ks ps : List ℕ) {ks′ ps′ : List ℕ} → ToldObject keys values n offset count ks ps r ks′ ps′
@@ -373,6 +383,20 @@ pub record DebugRead (b : Contents) (t : Tables) (k : Counts) (t′ : Tables) : 
   -- the words past the rows of each table are as they were, and it is as long
   pub past : PastRows k t t′
 
+-- ==== 9. Writing a table of functions (docs/FORMAT.md, section 3.9); each part stands in full in hbc_claims_function/specs/Written
+-- given (`Written`): rows of u32 words, and an accepted write of them (write_functions) that makes b into b′ and answers e; then (`writes`):
+pub record Writes (rows : List ℕ) (layout : Layout) (start count large : ℕ) (b : List ℕ) (e : ℕ) (b′ : List ℕ) : Type 0 where
+  -- any read_functions of b′ into a table with room for the rows is accepted, and leaves the rows and, behind them, every word as it was
+  pub back : ReadsBack rows layout start count b′
+  -- row i's header is flagged exactly when the row does not go inline, and its packed place is then where its large header is; the function that is
+  -- found there has the words of row i
+  pub header : (i : ℕ) → i < count → Headed b′ layout (rowAt width rows) start large i
+  -- the buffer is as long as before, and every byte of no header, inline or large, is as it was
+  pub kept : Kept layout (rowAt width rows) start large count b b′
+  -- large headers begin at multiples of 4, from the large place on, which is behind the table, and each behind all earlier ones; e is where the last of
+  -- them ends, or the table's end if there is none, and within the buffer
+  pub placed : Placed layout (rowAt width rows) start large count (length b) e
+
 -- ==== The theorems
 pub record Theorems : Type 2 where
   pub worked : All cases
@@ -407,3 +431,13 @@ pub record Theorems : Type 2 where
       → saysSections (sections.Got v) ≡ told (sectionsAt start regexps storage cjs given sources s) → SectionsRead s start regexps storage cjs given sources v
   pub debug-read : (file : List ℕ) (offset : ℕ) (t : Tables) (k : Counts) (t′ : Tables)
       → ReadDebug file offset t (debugged.Read k) t′ → DebugRead (contentsAt file offset) t k t′
+  pub writes : (rows : List ℕ) (layout : Layout) (start count large : ℕ) (b : List ℕ) (e : ℕ) (b′ : List ℕ)
+      → Written rows layout start count large b e b′ → Writes rows layout start count large b e b′
+  -- two writes that leave the same buffer were of the same rows, wherever their large headers went and whatever the buffers were before
+  pub same-rows : (rows₁ rows₂ : List ℕ) (layout : Layout) (start count large₁ large₂ : ℕ) (b₁ b₂ : List ℕ) (e₁ e₂ : ℕ) (b′ : List ℕ)
+      → Written rows₁ layout start count large₁ b₁ e₁ b′ → Written rows₂ layout start count large₂ b₂ e₂ b′
+      → take (count * width) rows₁ ≡ take (count * width) rows₂
+  -- and the same rows, whatever is lent behind them, give one answer and one buffer
+  pub one-output : (rows₁ rows₂ : List ℕ) (layout : Layout) (start count large : ℕ) (b : List ℕ) (r q : Wrote) (b₁ b₂ : List ℕ)
+      → count * width ≤ length rows₁ → count * width ≤ length rows₂ → take (count * width) rows₁ ≡ take (count * width) rows₂
+      → WriteFunctions rows₁ layout start count large b r b₁ → WriteFunctions rows₂ layout start count large b q b₂ → (r ≡ q) × (b₁ ≡ b₂)

@@ -28,6 +28,7 @@ use Rattle.hbc_function_header.specs.declared.Ground.{Ground}
 use Rattle.hbc_function_header.specs.Header.{functionAt, functionGround}
 use Rattle.hbc_function_header.specs.Meets.{meets}
 use Rattle.hbc_function.specs.Refresh.{refreshAnswer}
+use Rattle.hbc_function_write.specs.Write.{writeAnswer}
 use Rattle.hbc_table.specs.Table.{ReadTable}
 use Rattle.hbc_table_strings.specs.Strings.{lesser, decodeAnswer}
 use Rattle.hbc_buffer_literal.specs.declared.Literal.{Literal}
@@ -42,7 +43,7 @@ use Rattle.hbc_c_code.specs.Code.{codeOf, codeIn, always}
 use Rattle.hbc_c_code.specs.Told.{Told, ToldValue, Moves, Reads}
 use Rattle.hbc_c_code.proofs.Tolds.{left}
 use Rattle.hbc_c_io.specs.Io.{ReadsSpan}
-use Rattle.hbc_c_function.specs.Function.{Places, GroundTold, ToldFunctions, ToldRefresh, ToldFunction, ToldGround}
+use Rattle.hbc_c_function.specs.Function.{Places, GroundTold, ToldFunctions, ToldRefresh, ToldWrite, ToldFunction, ToldGround}
 use Rattle.hbc_c_function.proofs.ByLayouts.{by-layout}
 use Rattle.hbc_c_table.specs.Table.{ToldTable, ToldStrings}
 use Rattle.hbc_c_buffer.specs.Buffer.{yesOf, LiteralTold, ToldLiteral, ToldSeries, ToldObject}
@@ -51,7 +52,7 @@ use Rattle.hbc_c_debug.specs.Debug.{ToldDebug}
 use Rattle.hbc_claims_law.specs.Terms.{countOf, lebLeft, textLeft, PrefixLeft}
 use Rattle.hbc_claims_io.proofs.Left.{plain-left, number-left, bytes-left, seek-left, align-left, leb-left, zero-left, prefix-left}
 use Rattle.hbc_claims_function.proofs.Scans.{count-le, scan-counts}
-use Rattle.hbc_claims_function.proofs.Accepted.{refreshable}
+use Rattle.hbc_claims_function.proofs.Accepted.{refreshable, writable}
 use Rattle.hbc_claims_table.proofs.Tables.{table-left}
 use Rattle.hbc_claims_table.proofs.Strings.{decoded-count}
 use Rattle.hbc_claims_buffer.proofs.Refused.{literal-left}
@@ -139,6 +140,13 @@ module _ (n : ℕ) (s : List ℕ) (start : ℕ) (t : List ℕ) {r : ℕ} {t′ :
 
   pub hbc-function : (i : ℕ) → ToldFunction s n start i t r t′ → t′ ≡ t
   hbc-function i = by-layout (λ l. left (λ a e q. omega arith)) (λ p. p .1)
+
+pub hbc-write : (n : ℕ) (rows : List ℕ) (start count large : ℕ) (b : List ℕ) {r : ℕ} {b′ : List ℕ} → 2 ^ 32 ≤ r → ToldWrite rows n start count large b r b′
+    → b′ ≡ b
+hbc-write n rows start count large b {r} h = by-layout (λ l. left (λ a e q. let z = small l a e in omega arith)) (λ p. p .1)
+  where
+    small : (l : Layout) (x : ℕ) → writeAnswer rows l start count large b ≡ gives x → x < 2 ^ 32
+    small l x e = let a = writable rows l start count large b x e in omega (arith, a)
 
 ground-kept : (a : Answer Ground) {before after : Places} {r : ℕ} → (r ≡ 0 → ⊥) → GroundTold a before r after → after ≡ before
 ground-kept (gives g) h v = absurd (h (v .says))

@@ -11,7 +11,7 @@ use Rattle.hbc_c_code.proofs.Tolds as told
 use Rattle.hbc_c_io.specs.Io.{ReadsSpan}
 use Rattle.hbc_c_function.proofs.ByLayouts.{alone-by}
 use Rattle.hbc_claims_law.proofs.Law.{same}
-use Rattle.hbc_claims_function.proofs.Unique.{one-reading, one-refreshed}
+use Rattle.hbc_claims_function.proofs.Unique.{one-reading, one-refreshed, one-wrote}
 use Rattle.hbc_table_strings.proofs.Alone.{oneDecoded}
 use Rattle.hbc_claims_buffer.proofs.Unique.{oneSeries, both}
 use Rattle.hbc_claims_parsing.proofs.Unique.{oneListed}
@@ -50,6 +50,7 @@ unique = record {
   hbc_read_length_prefixed_string = λ k a r q s u. span-one;
   hbc_read_functions = λ k a r q s u. alone-by (λ l. told.alone (λ x y. alone one-reading));
   hbc_refresh_functions = λ k a r q s u. alone-by (λ l. told.alone (λ x y. alone one-refreshed));
+  hbc_write_functions = λ k a r q s u. alone-by (λ l. told.alone (λ x y. alone one-wrote));
   hbc_read_function = λ k a r q s u. alone-by (λ l. told.alone (λ x y. alone (λ v w e. e)));
   hbc_function_ground = λ k a r q s u. alone-by (λ l v w. (same (v .says) (w .says), same (v .holds) (w .holds)));
   hbc_function_meets = λ k a r q s u e f. alone-by (λ l v w. (same v w, refl)) e f .0;

@@ -24,6 +24,7 @@ use Rattle.hbc_c.proofs.io.hbc_read_cstring.Reads as of-read-cstring
 use Rattle.hbc_c.proofs.io.hbc_read_length_prefixed_string.Reads as of-read-length-prefixed-string
 use Rattle.hbc_c.proofs.function.hbc_read_functions.Reads as of-read-functions
 use Rattle.hbc_c.proofs.function.hbc_refresh_functions.Reads as of-refresh-functions
+use Rattle.hbc_c.proofs.function.hbc_write_functions.Reads as of-write-functions
 use Rattle.hbc_c.proofs.function.hbc_read_function.Reads as of-read-function
 use Rattle.hbc_c.proofs.function.hbc_function_ground.Reads as of-function-ground
 use Rattle.hbc_c.proofs.function.hbc_function_meets.Reads as of-function-meets
@@ -59,6 +60,7 @@ pub record Unique : Type 0 where
   pub hbc_read_length_prefixed_string : Both3 of-read-length-prefixed-string.Learnt (λ s. now (s .1 .0)) (λ s. now (s .1 .1 .0)) (λ s. now (s .1 .1 .1 .0))
   pub hbc_read_functions : Both of-read-functions.Learnt (λ s. now (s .1 .1 .1 .1 .0))
   pub hbc_refresh_functions : Both of-refresh-functions.Learnt (λ s. now (s .1 .1 .1 .1 .1 .1 .0))
+  pub hbc_write_functions : Both of-write-functions.Learnt (λ s. now (s .1 .1 .1 .1 .1 .0))
   pub hbc_read_function : Both of-read-function.Learnt (λ s. now (s .1 .1 .1 .1 .0))
   pub hbc_function_ground : Both of-function-ground.Learnt (λ s. places (now (s .1 .1 .1 .1 .0)) (now (s .1 .1 .1 .1 .1 .0)))
   pub hbc_function_meets : One of-function-meets.Learnt

@@ -1,17 +1,27 @@
 -- What an accepted call says of its tests, and what a refused one leaves.
-use Prim.Native.Nat.{ℕ}
+use Prim.Native.Nat.{ℕ, zero, suc, _≤_, _<_}
 use mathlib.Core.Path.{_≡_, refl}
 use mathlib.Core.List.{List}
+use mathlib.Core.Bool.{Bool, true, false, cond}
+use native.Mathlib.Omega.{arith}
+use lib.Dec.{ltb}
+use borrow.Author.Tests.{ltb-true, ltb-false}
+use Rattle.hbc_io.specs.Outcome.{refusalAt}
 use Rattle.hbc_io.specs.declared.Refusal.{Refusal}
 use Rattle.hbc_function_record.specs.declared.Layout.{Layout}
 use Rattle.hbc_function_header.specs.declared.Reading.the-variants as reading
-use Rattle.hbc_io.specs.Answer.{Answer, gives, refuses, asked}
+use Rattle.hbc_io.specs.Answer.{Answer, gives, refuses, asked, andThen}
 use Rattle.hbc_function_header.specs.Header.{functionAt, FunctionRow}
 use Rattle.hbc_function.specs.declared.Refreshed.the-variants as refreshed
 use Rattle.hbc_function.specs.Table.{scan, all, readAnswer, ReadFunctions}
 use Rattle.hbc_function.specs.Refresh.{refreshAnswer, RefreshFunctions}
 use Rattle.hbc_io.proofs.Exits.{not-given, reached}
-use Rattle.hbc_claims_function.specs.Accepted.{Accepted, Refreshable}
+use Rattle.hbc_rows.specs.Rows.{rowAt}
+use Rattle.hbc_function_record.specs.Row.{width}
+use Rattle.hbc_function_bytes.specs.Bytes.{rightRow}
+use Rattle.hbc_function_write.specs.Write.{rightEnd, checked, follows, writeAnswer}
+use Rattle.hbc_function_write.proofs.Plans.{through, all-checked}
+use Rattle.hbc_claims_function.specs.Accepted.{Accepted, Refreshable, Writable}
 
 un-asked : {A : Type 0} (a : Answer A) → asked a ≡ gives tt → (v : A) × (a ≡ gives v)
 un-asked (gives v) e = (v, refl)
@@ -38,7 +48,35 @@ refreshable s layout start count low high words k e =
     let g = reached _ _ _ _ not-given (f .1) in
     record { holds = f .0; scans = g .1 }
 
--- a refusal leaves the table
+-- ---- a write
+
+given-is : {v w : ℕ} → _≡_ {A = Answer ℕ} (gives v) (gives w) → w ≡ v
+given-is e = cc
+
+pub writable : (rows : List ℕ) (layout : Layout) (start count large : ℕ) (b : List ℕ) (e : ℕ) → writeAnswer rows layout start count large b ≡ gives e
+    → Writable rows layout start count large b e
+unfolding writeAnswer
+writable rows layout start count large b e h =
+    let f1 = reached _ _ _ _ not-given h in
+    let f2 = reached _ _ _ _ not-given (f1 .1) in
+    let f11 = reached _ _ _ _ not-given (f2 .1) in
+    let f13 = through _ _ (f11 .1) in
+    let f14 = through _ _ (f13 .1) in
+    let f15 = reached _ _ _ _ not-given (f14 .1) in
+    let f4 = reached _ _ _ _ not-given (f15 .1) in
+    record {
+      short = f1 .0;
+      begins = f2 .0;
+      holds = f11 .0;
+      right = λ i l. all-checked 13 (λ i. rightRow layout i (rowAt width rows i)) count i l (f13 .0);
+      ends = λ i l. all-checked 14 (rightEnd layout (rowAt width rows) large) count i l (f14 .0);
+      after = f15 .0;
+      fits = f4 .0;
+      end = given-is (f4 .1);
+    }
+
+-- ---- a refusal leaves the table
+
 pub read-left : (s : List ℕ) (layout : Layout) (start count : ℕ) {x : Refusal} {t t′ : List ℕ} → ReadFunctions s layout start count t (reading.Refused x) t′ → t′ ≡ t
 read-left s layout start count p = p .leaves
 

@@ -8,4 +8,8 @@ pub mod Meeting
 pub mod Tables
 pub mod Refreshed
 pub mod Packed
+pub mod Headers
+pub mod Holds
 pub mod Unique
+pub mod Written
+pub mod OneOutput

@@ -2,11 +2,12 @@
 use Prim.Native.Nat.{ℕ, zero, suc, _+_, _*_, _%_, _^_, _≤_, _<_}
 use mathlib.Core.Path.{_≡_, refl, sym, _∙_}
 use mathlib.Core.List.{List, [], _∷_, _++_}
-use mathlib.Core.Bool.{true}
+use mathlib.Core.Bool.{true, false}
 use native.Mathlib.Omega.{arith}
 use borrow.Author.Tests.{le-ltb}
 use lib.ListN.{length, replicate}
 use lib.Bits.{bitOr}
+use Rattle.hbc_bits.specs.Fields.{fieldsOf}
 use Rattle.hbc_bits.specs.Bits.{leAt, field}
 use Rattle.hbc_bits.proofs.Laws.{field-lt, field-or}
 use Rattle.hbc_function_record.specs.declared.Layout.the-variants.{Legacy16, Modern12}
@@ -16,7 +17,7 @@ use Rattle.hbc_function_record.specs.declared.Record.the-variants as rec
 use Rattle.hbc_io.specs.Answer.{gives}
 use Rattle.hbc_io.specs.Lends.{below, choose}
 use Rattle.hbc_function_record.specs.declared.Layout.{Layout}
-use Rattle.hbc_function_record.specs.Record.{sizeOf, largeOf, inlineOf, largeAt, flagsOf, placeOf, linkOf, legacyOf, modernOf, legacyLarge, modernLarge, overflowed, legacyPlace, modernPlace}
+use Rattle.hbc_function_record.specs.Record.{sizeOf, largeOf, inlineOf, largeAt, flagsOf, placeOf, linkOf, legacyOf, modernOf, legacyLarge, modernLarge, overflowed, legacyPlace, modernPlace, legacyBy, modernBy}
 use Rattle.hbc_function_header.specs.Header.{groundOf, whereOf, whereAt, recordAt, functionAt, readFunction}
 use Rattle.hbc_claims_law.specs.Terms.{Either, left, right, OrBit, flagged, packedAt}
 use Rattle.hbc_claims_function.specs.Packed.{legacy, modern}
@@ -63,6 +64,12 @@ large s layout at i h f k =
     let l : packedAt s layout at ≤ length s = omega arith in
     rw (le-ltb (length s) (at + sizeOf layout) h, f, le-ltb (length s) (packedAt s layout at) l, le-ltb (length s) (packedAt s layout at + largeOf layout) k)
 
+-- one that is not flagged is read from its own bytes
+pub own : (s : List ℕ) (layout : Layout) (at i : ℕ) → at + sizeOf layout ≤ length s → flagged s layout at ≡ false
+    → recordAt s layout at i ≡ gives (inlineOf layout i (leAt s at (sizeOf layout)))
+unfolding recordAt whereAt groundOf whereOf below choose linkOf
+own s layout at i h f = rw (le-ltb (length s) (at + sizeOf layout) h, f)
+
 -- on P3's numbers the packed place is not the sum of its parts
 pub not-added : legacyPlace (legacy 65552 2 10 3 1 5 1 2 3 4) ≡ 1 * 65536 + 65552 → ⊥
 unfolding legacyPlace
@@ -71,5 +78,5 @@ not-added e = let z : _≡_ {A = ℕ} 65552 131088 = e in omega arith
 -- a large header that is flagged itself is the record as it stands
 pub not-followed : (readFunction (16 ∷ replicate 14 0 ++ 32 ∷ replicate 30 0 ++ 32 ∷ []) Legacy16 0 0 ≡ gives (rec.Legacy (legacy 0 0 0 0 0 0 0 0 0 32)))
     × (readFunction (12 ∷ replicate 10 0 ++ 32 ∷ replicate 36 0 ++ 32 ∷ []) Modern12 0 0 ≡ gives (rec.Modern (modern 0 0 0 0 0 0 0 0 0 0 0 0 32 52)))
-unfolding readFunction functionAt recordAt whereAt whereOf groundOf below choose inlineOf largeAt flagsOf placeOf linkOf legacyOf modernOf legacyLarge modernLarge legacyPlace modernPlace leAt field overflowed
+unfolding readFunction functionAt recordAt whereAt whereOf groundOf below choose inlineOf largeAt flagsOf placeOf linkOf legacyOf modernOf legacyLarge modernLarge legacyPlace modernPlace leAt field overflowed legacyBy modernBy fieldsOf
 not-followed = (refl, refl)

@@ -16,6 +16,9 @@ use Rattle.hbc_function_header.specs.Meets.{saysMeeting}
 use Rattle.hbc_function.specs.declared.Refreshed.{Refreshed}
 use Rattle.hbc_function.specs.declared.Refreshed.the-variants as refreshed
 use Rattle.hbc_function.specs.Refresh.{saysRefreshed}
+use Rattle.hbc_function_write.specs.declared.Wrote.{Wrote}
+use Rattle.hbc_function_write.specs.declared.Wrote.the-variants as wrote
+use Rattle.hbc_function_write.specs.Write.{saysWrote}
 use Rattle.hbc_claims_law.proofs.Law.{same}
 use Rattle.hbc_claims_function.specs.Unique.{Unique}
 
@@ -55,6 +58,12 @@ one-refreshed (refreshed.Refused r) (refreshed.Refused q) e = cc
 one-refreshed (refreshed.Done r) (refreshed.Refused q) e = absurd (not-given (sym e))
 one-refreshed (refreshed.Refused r) (refreshed.Done q) e = absurd (not-given e)
 
+pub one-wrote : (a b : Wrote) → saysWrote a ≡ saysWrote b → a ≡ b
+one-wrote (wrote.To r) (wrote.To q) e = let p : r ≡ q = cc in rw p
+one-wrote (wrote.Refused r) (wrote.Refused q) e = cc
+one-wrote (wrote.To r) (wrote.Refused q) e = absurd (not-given (sym e))
+one-wrote (wrote.Refused r) (wrote.To q) e = absurd (not-given e)
+
 pub unique : Unique
 unique = record {
   header_size = λ k a r q s u. same;
@@ -73,4 +82,8 @@ unique = record {
   function_meets = λ k a r q s u e f. one-meeting r q (same e f);
   read_functions = λ k a r q s u. alone one-reading;
   refresh_functions = λ k a r q s u. alone one-refreshed;
+  row_is_right = λ k a r q s u. same;
+  inline_words = λ k a r q s u. same;
+  pointer_words = λ k a r q s u. same;
+  write_functions = λ k a r q s u. alone one-wrote;
 }

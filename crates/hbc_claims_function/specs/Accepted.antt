@@ -1,7 +1,8 @@
--- docs/FORMAT.md, section 1.2: what an accepted read and an accepted refresh say of their tests.
-use Prim.Native.Nat.{ℕ, _*_, _≤_}
+-- docs/FORMAT.md, section 1.2: what an accepted read, an accepted refresh and an accepted write say of their tests.
+use Prim.Native.Nat.{ℕ, _*_, _≤_, _<_}
 use mathlib.Core.Path.{_≡_}
 use mathlib.Core.List.{List}
+use mathlib.Core.Bool.{true}
 use lib.ListN.{length}
 use Rattle.hbc_io.specs.Outcome.{limit}
 use Rattle.hbc_function_record.specs.declared.Layout.{Layout}
@@ -10,6 +11,9 @@ use Rattle.hbc_function_header.specs.Header.{functionAt}
 use Rattle.hbc_function_record.specs.Row.{width}
 use Rattle.hbc_function_header.specs.Meets.{meets}
 use Rattle.hbc_function.specs.Table.{scan, all}
+use Rattle.hbc_rows.specs.Rows.{rowAt}
+use Rattle.hbc_function_bytes.specs.Bytes.{rightRow}
+use Rattle.hbc_function_write.specs.Write.{endAt, tableEnd, rightEnd}
 
 pub record Accepted (s : List ℕ) (layout : Layout) (start count words : ℕ) : Type 0 where
   pub short : length s ≤ limit
@@ -21,3 +25,13 @@ pub record Accepted (s : List ℕ) (layout : Layout) (start count words : ℕ) :
 pub record Refreshable (s : List ℕ) (layout : Layout) (start count low high words k : ℕ) : Type 0 where
   pub holds : count * width ≤ words
   pub scans : scan (meets s layout start low high) (functionAt s layout start) count ≡ gives k
+
+pub record Writable (rows : List ℕ) (layout : Layout) (start count large : ℕ) (b : List ℕ) (e : ℕ) : Type 0 where
+  pub short : length b ≤ limit
+  pub begins : start ≤ length b
+  pub holds : count * width ≤ length rows
+  pub right : (i : ℕ) → i < count → rightRow layout i (rowAt width rows i) ≡ true
+  pub ends : (i : ℕ) → i < count → rightEnd layout (rowAt width rows) large i ≡ true
+  pub after : tableEnd layout start count ≤ large
+  pub fits : endAt layout (rowAt width rows) large (tableEnd layout start count) count ≤ length b
+  pub end : e ≡ endAt layout (rowAt width rows) large (tableEnd layout start count) count

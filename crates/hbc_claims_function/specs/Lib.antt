@@ -4,4 +4,5 @@ pub mod Accepted
 pub mod Tables
 pub mod Refreshed
 pub mod Packed
+pub mod Written
 pub mod Unique

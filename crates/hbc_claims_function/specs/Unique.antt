@@ -16,6 +16,10 @@ use Rattle.hbc_function_header.proofs.function_ground.Reads as of-function-grou
 use Rattle.hbc_function_header.proofs.function_meets.Reads as of-function-meets
 use Rattle.hbc_function.proofs.read_functions.Reads as of-read-functions
 use Rattle.hbc_function.proofs.refresh_functions.Reads as of-refresh-functions
+use Rattle.hbc_function_bytes.proofs.row_is_right.Reads as of-row-is-right
+use Rattle.hbc_function_bytes.proofs.inline_words.Reads as of-inline-words
+use Rattle.hbc_function_bytes.proofs.pointer_words.Reads as of-pointer-words
+use Rattle.hbc_function_write.proofs.write_functions.Reads as of-write-functions
 use Rattle.hbc_claims_law.specs.Law.{One, Both}
 
 -- the calls by name
@@ -36,3 +40,7 @@ pub record Unique : Type 0 where
   pub function_meets : One of-function-meets.Learnt
   pub read_functions : Both of-read-functions.Learnt (λ s. now (s .1 .1 .1 .1 .0))
   pub refresh_functions : Both of-refresh-functions.Learnt (λ s. now (s .1 .1 .1 .1 .1 .1 .0))
+  pub row_is_right : One of-row-is-right.Learnt
+  pub inline_words : One of-inline-words.Learnt
+  pub pointer_words : One of-pointer-words.Learnt
+  pub write_functions : Both of-write-functions.Learnt (λ s. now (s .1 .1 .1 .1 .1 .0))

@@ -6,6 +6,7 @@ use mathlib.Core.Bool.{Bool, true, false, not}
 use native.Mathlib.Omega.{arith}
 use lib.ListN.{length}
 use borrow.Author.Tests.{le-ltb, lt-ltb, le-leb, lt-leb, leb-true, leb-false, not-true, not-false}
+use Rattle.hbc_bits.specs.Fields.{fieldsOf}
 use Rattle.hbc_bits.specs.Bits.{leAt, field}
 use Rattle.hbc_bits.proofs.Laws.{le-add}
 use Rattle.hbc_io.specs.Outcome.{limit}
@@ -19,7 +20,7 @@ use Rattle.hbc_function_record.specs.declared.Modern.{Modern}
 use Rattle.hbc_function_record.specs.declared.Record.the-variants as rec
 use Rattle.hbc_function_record.specs.declared.Link.{Link}
 use Rattle.hbc_function_record.specs.declared.Link.the-variants as link
-use Rattle.hbc_function_record.specs.Record.{sizeOf, largeOf, legacyOf, modernOf, legacyLarge, modernLarge, inlineOf, largeAt, largeIn, flagsOf, overflowed, legacyPlace, modernPlace, placeOf, linkOf}
+use Rattle.hbc_function_record.specs.Record.{sizeOf, largeOf, legacyOf, modernOf, legacyLarge, modernLarge, inlineOf, largeAt, largeIn, flagsOf, overflowed, legacyPlace, modernPlace, placeOf, linkOf, legacyBy, modernBy}
 use Rattle.hbc_function_record.specs.declared.Record.{Record}
 use Rattle.hbc_function_record.specs.Row.{legacyWords, modernWords, rowWords}
 use Rattle.hbc_function_record.specs.Private.{isThere}
@@ -131,7 +132,7 @@ unfolding inlineOf flagsOf
 modern-flag d e f = rw (← f, ← e) d
 
 flag-zeros : (layout : Layout) → false ≡ overflowed (flagsOf (inlineOf layout 0 0))
-unfolding inlineOf legacyOf modernOf flagsOf overflowed field
+unfolding inlineOf legacyOf modernOf flagsOf overflowed field legacyBy modernBy fieldsOf
 flag-zeros lay.Legacy16 = refl
 flag-zeros lay.Modern12 = refl
 
@@ -155,7 +156,7 @@ modern-row-is i d e f = d ∙ ap modernWords (e ∙ ap (modernOf i) f)
 
 -- a header of zeros is not flagged
 link-zeros : (layout : Layout) → link.Own ≡ linkOf (inlineOf layout 0 0)
-unfolding linkOf choose inlineOf legacyOf modernOf flagsOf overflowed field
+unfolding linkOf choose inlineOf legacyOf modernOf flagsOf overflowed field legacyBy modernBy fieldsOf
 link-zeros lay.Legacy16 = refl
 link-zeros lay.Modern12 = refl
 

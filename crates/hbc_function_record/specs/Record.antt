@@ -1,11 +1,12 @@
 -- docs/FORMAT.md, sections 3.1 to 3.3: the two records, their fields in an inline header as (first bit, width), in a large one, and where a large one is.
 use Prim.Native.Nat.{ℕ, _+_, _*_, _/_, _%_, _^_}
-use mathlib.Core.List.{List}
+use mathlib.Core.List.{List, [], _∷_}
 use mathlib.Core.Bool.{Bool}
-use lib.ListN.{length}
+use lib.ListN.{length, getD}
 use lib.Bits.{bitOr}
 use lib.Dec.{eqb}
 use Rattle.hbc_bits.specs.Bits.{leAt, field}
+use Rattle.hbc_bits.specs.Fields.{fieldsOf}
 use Rattle.hbc_io.specs.Outcome.{limit}
 use Rattle.hbc_io.specs.Lends.{below, choose}
 use Rattle.hbc_function_record.specs.declared.Layout.{Layout}
@@ -29,41 +30,59 @@ largeOf lay.Modern12 = 37
 
 -- ---- the inline record
 
--- legacy: the fields of the number of its bytes
-unfoldable pub legacyOf : ℕ → ℕ → Legacy
-legacyOf i n = record {
+-- legacy: each field as (first bit, width), in the order in which both headers hold them: offset, param_count, size, name, info_offset, frame_size,
+-- environment_size, read index, write index, flags
+abbrev pub legacyFields : List (ℕ × ℕ)
+legacyFields = (0, 25) ∷ (25, 7) ∷ (32, 15) ∷ (47, 17) ∷ (64, 25) ∷ (89, 7) ∷ (96, 8) ∷ (104, 8) ∷ (112, 8) ∷ (120, 8) ∷ []
+
+-- the record of function i that has these values, in that order
+unfoldable pub legacyBy : ℕ → List ℕ → Legacy
+legacyBy i vs = record {
   id = i;
-  offset = field 0 25 n;
-  «param_count» = field 25 7 n;
-  size = field 32 15 n;
-  name = field 47 17 n;
-  «info_offset» = field 64 25 n;
-  «frame_size» = field 89 7 n;
-  «environment_size» = field 96 8 n;
-  read = field 104 8 n;
-  write = field 112 8 n;
-  flags = field 120 8 n;
+  offset = getD vs 0 0;
+  «param_count» = getD vs 1 0;
+  size = getD vs 2 0;
+  name = getD vs 3 0;
+  «info_offset» = getD vs 4 0;
+  «frame_size» = getD vs 5 0;
+  «environment_size» = getD vs 6 0;
+  read = getD vs 7 0;
+  write = getD vs 8 0;
+  flags = getD vs 9 0;
 }
 
--- modern: likewise; info_offset is 0
-unfoldable pub modernOf : ℕ → ℕ → Modern
-modernOf i n = record {
+-- of the number of an inline header's bytes: its fields
+unfoldable pub legacyOf : ℕ → ℕ → Legacy
+legacyOf i n = legacyBy i (fieldsOf legacyFields n)
+
+-- modern: offset, param_count, loop_depth, size, name, number_reg, non_ptr_reg, frame_size, read cache, write cache, new_object, private_name, flags
+abbrev pub modernFields : List (ℕ × ℕ)
+modernFields =
+    (0, 25) ∷ (25, 5) ∷ (30, 2) ∷ (32, 14) ∷ (46, 8) ∷ (54, 5) ∷ (59, 5) ∷ (64, 8) ∷ (72, 8) ∷ (80, 6) ∷ (86, 1) ∷ (87, 1) ∷ (88, 8) ∷ []
+
+-- info_offset is not among them
+unfoldable pub modernBy : ℕ → ℕ → List ℕ → Modern
+modernBy i info vs = record {
   id = i;
-  offset = field 0 25 n;
-  «param_count» = field 25 5 n;
-  «loop_depth» = field 30 2 n;
-  size = field 32 14 n;
-  name = field 46 8 n;
-  «number_reg» = field 54 5 n;
-  «non_ptr_reg» = field 59 5 n;
-  «frame_size» = field 64 8 n;
-  «read_cache» = field 72 8 n;
-  «write_cache» = field 80 6 n;
-  «new_object» = field 86 1 n;
-  «private_name» = field 87 1 n;
-  flags = field 88 8 n;
-  «info_offset» = 0;
+  offset = getD vs 0 0;
+  «param_count» = getD vs 1 0;
+  «loop_depth» = getD vs 2 0;
+  size = getD vs 3 0;
+  name = getD vs 4 0;
+  «number_reg» = getD vs 5 0;
+  «non_ptr_reg» = getD vs 6 0;
+  «frame_size» = getD vs 7 0;
+  «read_cache» = getD vs 8 0;
+  «write_cache» = getD vs 9 0;
+  «new_object» = getD vs 10 0;
+  «private_name» = getD vs 11 0;
+  flags = getD vs 12 0;
+  «info_offset» = info;
 }
+
+-- inline, info_offset is 0
+unfoldable pub modernOf : ℕ → ℕ → Modern
+modernOf i n = modernBy i 0 (fieldsOf modernFields n)
 
 -- the record of function i by that number
 unfoldable pub inlineOf : Layout → ℕ → ℕ → Record

@@ -40,6 +40,38 @@ ROW_FRAME_SIZE = 7
 abbrev pub ROW_FLAGS : ℕ
 ROW_FLAGS = 8
 
+-- those of legacy alone
+abbrev pub ROW_ENVIRONMENT_SIZE : ℕ
+ROW_ENVIRONMENT_SIZE = 9
+
+abbrev pub ROW_READ : ℕ
+ROW_READ = 10
+
+abbrev pub ROW_WRITE : ℕ
+ROW_WRITE = 11
+
+-- and of modern
+abbrev pub ROW_LOOP_DEPTH : ℕ
+ROW_LOOP_DEPTH = 9
+
+abbrev pub ROW_NUMBER_REG : ℕ
+ROW_NUMBER_REG = 10
+
+abbrev pub ROW_NON_PTR_REG : ℕ
+ROW_NON_PTR_REG = 11
+
+abbrev pub ROW_READ_CACHE : ℕ
+ROW_READ_CACHE = 12
+
+abbrev pub ROW_WRITE_CACHE : ℕ
+ROW_WRITE_CACHE = 13
+
+abbrev pub ROW_NEW_OBJECT : ℕ
+ROW_NEW_OBJECT = 14
+
+abbrev pub ROW_PRIVATE_NAME : ℕ
+ROW_PRIVATE_NAME = 15
+
 -- a layout's number
 abbrev pub numberIn : Layout → ℕ
 numberIn lay.Legacy16 = 0

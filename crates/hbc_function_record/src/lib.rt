@@ -98,6 +98,28 @@ pub const ROW_FRAME_SIZE: usize = 7;
 
 pub const ROW_FLAGS: usize = 8;
 
+// Those of legacy alone.
+pub const ROW_ENVIRONMENT_SIZE: usize = 9;
+
+pub const ROW_READ: usize = 10;
+
+pub const ROW_WRITE: usize = 11;
+
+// And of modern.
+pub const ROW_LOOP_DEPTH: usize = 9;
+
+pub const ROW_NUMBER_REG: usize = 10;
+
+pub const ROW_NON_PTR_REG: usize = 11;
+
+pub const ROW_READ_CACHE: usize = 12;
+
+pub const ROW_WRITE_CACHE: usize = 13;
+
+pub const ROW_NEW_OBJECT: usize = 14;
+
+pub const ROW_PRIVATE_NAME: usize = 15;
+
 // How many bytes an inline header has.
 pub fn header_size(layout: Layout) -> usize
     ensures { λ r. ⌜ r ≡ sizeOf layout ⌝ }

@@ -1,4 +1,5 @@
--- docs/FORMAT.md, section 1.5: lent tables of words: one word, words put in front, and rows of any width put at their places, over what is there.
+-- docs/FORMAT.md, section 1.5: lent tables of words: one word, words put in front or from a place on, and rows of any width put at their places, over
+-- what is there.
 use Prim.Native.Nat.{ℕ, zero, suc, _+_, _*_, _/_}
 use mathlib.Core.List.{List}
 use mathlib.Core.Bool.{cond}
@@ -14,6 +15,10 @@ entryAt t i = getD t i 0
 unfoldable pub filled : (ℕ → ℕ) → ℕ → List ℕ → List ℕ
 filled f zero t = t
 filled f (suc n) t = set (filled f n t) n (f n)
+
+-- the table, or the bytes, with these put from a place on, those that there is room for
+unfoldable pub put : ℕ → List ℕ → List ℕ → List ℕ
+put at bs t = sets t at bs
 
 -- ---- rows of w words each: a function's, a string's, a scope's, a pair
 

@@ -3,69 +3,70 @@ use crate::cursor::same_float;
 use crate::records::Asked;
 use crate::records::FILL;
 use crate::records::FILL_LONG;
+use crate::records::answers;
 use crate::records::are;
 use crate::records::bytes_are;
 use crate::records::field;
 use crate::records::leaves;
 use crate::records::lent;
 use crate::records::lent_longs;
-use crate::records::truth;
 use crate::records::words_are;
 use hbc_buffer_object::Object;
 
 // Asked: cursor, tag, a float's bits. The answer: code, cursor, kind, word, 1 if the float is the one asked.
-pub(crate) fn read_literal(record: &[u8], n: Asked) -> bool {
-    let mut at = n.a as usize;
+pub(crate) fn read_literal(record: &[u8], s: &[u8], n: Asked) -> bool {
+    let mut at = n.a;
     let mut kind: u32 = 0;
     let mut number: f64 = 0.0;
     let mut word: u32 = 0;
-    let code = hbc_c_buffer::read_literal(
-        field(record, 1),
-        &mut at,
-        (n.b % 0x100) as u8,
-        &mut kind,
-        &mut number,
-        &mut word,
-    );
-    let same = truth(same_float(number, hbc_io::float_of(n.c)));
-    let answer = [code, at as u64, kind as u64, word as u64, same];
-    are(record, 2, &answer)
+    let tag = (n.b % 0x100) as u8;
+    let code = hbc_c_buffer::read_literal(s, &mut at, tag, &mut kind, &mut number, &mut word);
+    let same = same_float(number, n.c as u64);
+    answers(
+        record,
+        code,
+        at,
+        kind as usize,
+        word as usize,
+        same as usize,
+    )
 }
 
 // Asked: words lent of kinds and of payloads; offset, count.
-pub(crate) fn read_series(record: &[u8], n: Asked) -> bool {
+pub(crate) fn read_series(record: &[u8], s: &[u8], n: Asked) -> bool {
     let mut kinds = [FILL; 320];
     let mut payloads = [FILL_LONG; 320];
     let code = hbc_c_buffer::read_series(
-        field(record, 1),
+        s,
         n.p,
         n.q,
         lent(&mut kinds, n.a),
         lent_longs(&mut payloads, n.b),
     );
-    leaves(record, code, 0, &kinds) && are(record, 4, &payloads)
+    leaves(record, code, 0, &kinds) & are(record, 4, &payloads)
 }
 
 // Whether an object's answer is the one listed, and its part the bytes recorded.
 fn is(record: &[u8], o: Object) -> bool {
     let r = o.refusal;
-    let answer = [
-        r.number as u64,
-        r.place as u64,
-        o.start as u64,
-        o.len as u64,
-        truth(o.yes),
-    ];
     let part = hbc_buffer_object::object_part(field(record, 1), field(record, 5), o);
-    are(record, 2, &answer) && bytes_are(record, 6, part)
+    answers(
+        record,
+        r.number as u64,
+        r.place as usize,
+        o.start,
+        o.len,
+        o.yes as usize,
+    )
+        & bytes_are(record, 6, part)
 }
 
 // Asked besides: 1 for keys, 0 for values. The keys are the input, the values stand behind the tables.
-pub(crate) fn read_object(record: &[u8], n: Asked) -> bool {
+pub(crate) fn read_object(record: &[u8], s: &[u8], n: Asked) -> bool {
     let mut kinds = [FILL; 320];
     let mut payloads = [FILL_LONG; 320];
     let o = hbc_buffer_object::read_object(
-        field(record, 1),
+        s,
         field(record, 5),
         n.c == 1,
         n.p,
@@ -73,5 +74,5 @@ pub(crate) fn read_object(record: &[u8], n: Asked) -> bool {
         lent(&mut kinds, n.a),
         lent_longs(&mut payloads, n.b),
     );
-    is(record, o) && words_are(record, 3, &kinds) && are(record, 4, &payloads)
+    is(record, o) & words_are(record, 3, &kinds) & are(record, 4, &payloads)
 }

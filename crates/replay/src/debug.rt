@@ -1,8 +1,7 @@
 // Debug sections. Asked: words lent in four tables; offset. The answer: code, four counts; then the tables.
 use crate::records::Asked;
 use crate::records::FILL;
-use crate::records::are;
-use crate::records::field;
+use crate::records::answers;
 use crate::records::lent;
 use crate::records::words_are;
 
@@ -14,12 +13,12 @@ fn are_left(
     callees: &[u32],
 ) -> bool {
     words_are(record, 3, strings)
-        && words_are(record, 4, scopes)
-        && words_are(record, 5, names)
-        && words_are(record, 6, callees)
+        & words_are(record, 4, scopes)
+        & words_are(record, 5, names)
+        & words_are(record, 6, callees)
 }
 
-pub(crate) fn read_debug(record: &[u8], n: Asked) -> bool {
+pub(crate) fn read_debug(record: &[u8], s: &[u8], n: Asked) -> bool {
     let mut strings = [FILL; 96];
     let mut scopes = [FILL; 160];
     let mut names = [FILL; 96];
@@ -29,7 +28,7 @@ pub(crate) fn read_debug(record: &[u8], n: Asked) -> bool {
     let mut c: usize = 0;
     let mut d: usize = 0;
     let code = hbc_c_debug::read_debug(
-        field(record, 1),
+        s,
         n.p,
         lent(&mut strings, n.a),
         lent(&mut scopes, n.b),
@@ -40,6 +39,5 @@ pub(crate) fn read_debug(record: &[u8], n: Asked) -> bool {
         &mut c,
         &mut d,
     );
-    let answer = [code, a as u64, b as u64, c as u64, d as u64];
-    are(record, 2, &answer) && are_left(record, &strings, &scopes, &names, &callees)
+    answers(record, code, a, b, c, d) & are_left(record, &strings, &scopes, &names, &callees)
 }

@@ -1,67 +1,54 @@
 // Function tables. Asked: start, both ends of the span, words lent; layout, count or number. The answer: code, 0.
 use crate::records::Asked;
 use crate::records::FILL;
-use crate::records::are;
-use crate::records::field;
+use crate::records::FILL_BYTE;
+use crate::records::NONE;
+use crate::records::answers;
+use crate::records::bytes_are;
+use crate::records::given;
 use crate::records::leaves;
 use crate::records::lent;
+use crate::records::lent_bytes;
 use hbc_function_header::Function;
 use hbc_function_record::Layout;
 use hbc_function_record::WIDTH;
+use hbc_io::Span;
 
-pub(crate) fn read_functions(record: &[u8], n: Asked) -> bool {
+pub(crate) fn read_functions(record: &[u8], s: &[u8], n: Asked) -> bool {
     let mut table = [FILL; 256];
-    let code = hbc_c_function::read_functions(
-        field(record, 1),
-        n.p,
-        n.a as usize,
-        n.q,
-        lent(&mut table, n.d),
-    );
+    let code = hbc_c_function::read_functions(s, n.p, n.a, n.q, lent(&mut table, n.d));
     leaves(record, code, 0, &table)
 }
 
-pub(crate) fn refresh_functions(record: &[u8], n: Asked) -> bool {
+pub(crate) fn refresh_functions(record: &[u8], s: &[u8], n: Asked) -> bool {
     let mut table = [FILL; 256];
-    let code = hbc_c_function::refresh_functions(
-        field(record, 1),
-        n.p,
-        n.a as usize,
-        n.q,
-        n.b as usize,
-        n.c as usize,
-        lent(&mut table, n.d),
-    );
+    let t = lent(&mut table, n.d);
+    let code = hbc_c_function::refresh_functions(s, n.p, n.a, n.q, n.b, n.c, t);
     leaves(record, code, 0, &table)
 }
 
-pub(crate) fn function_meets(record: &[u8], n: Asked) -> bool {
-    let code = hbc_c_function::function_meets(
-        field(record, 1),
-        n.p,
-        n.a as usize,
-        n.q,
-        n.b as usize,
-        n.c as usize,
-    );
-    let answer = [code, 0];
-    are(record, 2, &answer)
+pub(crate) fn function_meets(record: &[u8], s: &[u8], n: Asked) -> bool {
+    let code = hbc_c_function::function_meets(s, n.p, n.a, n.q, n.b, n.c);
+    answers(record, code, 0, NONE, NONE, NONE)
 }
 
 // The places where they are told: code, header, large header.
-pub(crate) fn function_ground(record: &[u8], n: Asked) -> bool {
+pub(crate) fn function_ground(record: &[u8], s: &[u8], n: Asked) -> bool {
     let mut header: usize = 0;
     let mut large: usize = 0;
-    let code = hbc_c_function::function_ground(
-        field(record, 1),
-        n.p,
-        n.a as usize,
-        n.q,
-        &mut header,
-        &mut large,
-    );
-    let answer = [code, header as u64, large as u64];
-    are(record, 2, &answer)
+    let code = hbc_c_function::function_ground(s, n.p, n.a, n.q, &mut header, &mut large);
+    answers(record, code, header, large, NONE, NONE)
+}
+
+// Asked: start, the place for large headers, 0, bytes lent; layout, count. The input is the rows' words.
+pub(crate) fn write_functions(record: &[u8], n: Asked) -> bool {
+    let mut table = [0u32; 256];
+    let rows = given(record, 1, &mut table);
+    let mut buffer = [FILL_BYTE; 256];
+    let b = lent_bytes(&mut buffer, n.d);
+    let code = hbc_c_function::write_functions(rows, n.p, n.a, n.q, n.b, b);
+    let all = Span { start: 0, len: n.d };
+    answers(record, code, 0, NONE, NONE, NONE) & bytes_are(record, 3, hbc_io::part(&buffer, all))
 }
 
 fn layout_of(n: u32) -> Layout {
@@ -73,8 +60,8 @@ fn layout_of(n: u32) -> Layout {
 }
 
 // The record itself, not the row that the boundary copies.
-pub(crate) fn read_function(record: &[u8], n: Asked) -> bool {
-    match hbc_function_header::read_function(field(record, 1), layout_of(n.p), n.a as usize, n.q) {
+pub(crate) fn read_function(record: &[u8], s: &[u8], n: Asked) -> bool {
+    match hbc_function_header::read_function(s, layout_of(n.p), n.a, n.q) {
         Function::Read(r) => {
             let row = hbc_function_record::row_words(r);
             leaves(record, 1, 0, &row)

@@ -26,26 +26,28 @@ fn report(name: &[u8], t: Tally) -> Tally {
     Tally { all: 0, bad: 0 }
 }
 
-// Whether a call does what is recorded.
+// Whether a call does what is recorded. Its input is read here once, for all judges.
 fn judge(record: &[u8], n: Asked) -> bool {
+    let s = records::field(record, 1);
     let call = n.call;
     match call {
-        15 => function::read_functions(record, n),
-        16 => function::read_function(record, n),
-        17 => function::refresh_functions(record, n),
-        18 => function::function_meets(record, n),
-        19 => table::read_u32_table(record, n),
-        20 => table::read_pair_table(record, n),
-        21 => table::decode_strings(record, n),
-        22 => table::string_bytes(record, n),
-        23 => buffer::read_literal(record, n),
-        24 => buffer::read_series(record, n),
-        25 => buffer::read_object(record, n),
-        26 => parsing::read_handlers(record, n),
-        27 => parsing::trailing_sections(record, n),
-        28 => debug::read_debug(record, n),
-        29 => function::function_ground(record, n),
-        _ => cursor::judge(record, n),
+        15 => function::read_functions(record, s, n),
+        16 => function::read_function(record, s, n),
+        17 => function::refresh_functions(record, s, n),
+        18 => function::function_meets(record, s, n),
+        19 => table::read_u32_table(record, s, n),
+        20 => table::read_pair_table(record, s, n),
+        21 => table::decode_strings(record, s, n),
+        22 => table::string_bytes(record, s, n),
+        23 => buffer::read_literal(record, s, n),
+        24 => buffer::read_series(record, s, n),
+        25 => buffer::read_object(record, s, n),
+        26 => parsing::read_handlers(record, s, n),
+        27 => parsing::trailing_sections(record, s, n),
+        28 => debug::read_debug(record, s, n),
+        29 => function::function_ground(record, s, n),
+        30 => function::write_functions(record, n),
+        _ => cursor::judge(record, s, n),
     }
 }
 
@@ -57,7 +59,7 @@ fn turn(record: &[u8], t: Tally) -> Tally {
     if n.call == 0 {
         return report(records::field(record, 1), t);
     }
-    let differs = records::truth(!judge(record, n));
+    let differs = !judge(record, n) as u64;
     Tally {
         all: std::num::wrapping_add_u64(t.all, 1),
         bad: std::num::wrapping_add_u64(t.bad, differs),

@@ -1,30 +1,30 @@
 // String tables.
 use crate::records::Asked;
 use crate::records::FILL;
-use crate::records::are;
+use crate::records::NONE;
+use crate::records::answers;
 use crate::records::bytes_are;
-use crate::records::field;
 use crate::records::given;
 use crate::records::leaves;
 use crate::records::lent;
 
 // Asked: cursor, words lent; count. The answer: code, cursor.
-pub(crate) fn read_u32_table(record: &[u8], n: Asked) -> bool {
+pub(crate) fn read_u32_table(record: &[u8], s: &[u8], n: Asked) -> bool {
     let mut table = [FILL; 128];
-    let mut at = n.a as usize;
-    let code = hbc_c_table::read_u32_table(field(record, 1), &mut at, n.p, lent(&mut table, n.b));
+    let mut at = n.a;
+    let code = hbc_c_table::read_u32_table(s, &mut at, n.p, lent(&mut table, n.b));
     leaves(record, code, at, &table)
 }
 
-pub(crate) fn read_pair_table(record: &[u8], n: Asked) -> bool {
+pub(crate) fn read_pair_table(record: &[u8], s: &[u8], n: Asked) -> bool {
     let mut table = [FILL; 128];
-    let mut at = n.a as usize;
-    let code = hbc_c_table::read_pair_table(field(record, 1), &mut at, n.p, lent(&mut table, n.b));
+    let mut at = n.a;
+    let code = hbc_c_table::read_pair_table(s, &mut at, n.p, lent(&mut table, n.b));
     leaves(record, code, at, &table)
 }
 
 // Asked: words lent; count. Given: kind runs, small entries, overflow words.
-pub(crate) fn decode_strings(record: &[u8], n: Asked) -> bool {
+pub(crate) fn decode_strings(record: &[u8], s: &[u8], n: Asked) -> bool {
     let mut runs = [0u32; 64];
     let kinds = given(record, 4, &mut runs);
     let mut entries = [0u32; 64];
@@ -32,25 +32,16 @@ pub(crate) fn decode_strings(record: &[u8], n: Asked) -> bool {
     let mut pairs = [0u32; 64];
     let overflow = given(record, 6, &mut pairs);
     let mut rows = [FILL; 128];
-    let code = hbc_c_table::decode_strings(
-        n.p,
-        kinds,
-        small,
-        overflow,
-        field(record, 1),
-        lent(&mut rows, n.a),
-    );
+    let t = lent(&mut rows, n.a);
+    let code = hbc_c_table::decode_strings(n.p, kinds, small, overflow, s, t);
     leaves(record, code, 0, &rows)
 }
 
 // Asked: a row's number. Given: the rows. The answer: start and length; then the bytes.
-pub(crate) fn string_bytes(record: &[u8], n: Asked) -> bool {
+pub(crate) fn string_bytes(record: &[u8], s: &[u8], n: Asked) -> bool {
     let mut table = [0u32; 64];
     let rows = given(record, 4, &mut table);
-    let index = n.a as usize;
-    let storage = field(record, 1);
-    let p = hbc_table_bytes::string_span(storage, rows, index);
-    let answer = [p.start as u64, p.len as u64];
-    let part = hbc_table_bytes::string_bytes(storage, rows, index);
-    are(record, 2, &answer) && bytes_are(record, 3, part)
+    let p = hbc_table_bytes::string_span(s, rows, n.a);
+    let part = hbc_table_bytes::string_bytes(s, rows, n.a);
+    answers(record, p.start as u64, p.len, NONE, NONE, NONE) & bytes_are(record, 3, part)
 }

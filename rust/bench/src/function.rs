@@ -1,4 +1,4 @@
-//! The function tables: the whole table at once, and what a small edit costs.
+//! The function tables: the whole table at once, what a small edit costs, and rows that are written.
 
 use bisquepond::function::FunctionRow;
 use bisquepond::sys::*;
@@ -9,7 +9,7 @@ use published::format::{empty_header, FunctionHeaderLayout, FLAG_OVERFLOWED};
 use published::io::ByteReader;
 
 use crate::table::{Bench, SIZES};
-use crate::whole::{heading, Whole};
+use crate::whole::{heading, sides, Whole};
 
 const ROW: usize = FunctionRow::WORDS;
 const START: usize = 128;
@@ -53,6 +53,24 @@ pub fn rows(bench: &Bench) {
             let header = START + own * (file.count / 2);
             file.refresh(bench, &format!("refresh {name}, header"), header);
             file.refresh(bench, &format!("refresh {name}, large"), file.last);
+        }
+    }
+    sides(
+        "Function tables written, against our own read of what was written: a ratio of 0.67 is a write of 1.5 times the",
+        "read's time. Rows and bytes are there already. One function of 16 with a large header, none, or each.",
+        "function",
+        ["write", "read", "read/write"],
+    );
+    for (layout, name, ..) in LAYOUTS {
+        for size in SIZES {
+            for (one_in, kind) in [
+                (LARGE, ""),
+                (usize::MAX, ", none large"),
+                (1, ", all large"),
+            ] {
+                let file = File::filling(layout, size, one_in);
+                file.write(bench, &format!("write {name}{kind}"));
+            }
         }
     }
 }
@@ -126,6 +144,32 @@ impl File {
         let sampled = [0, self.count / 2, self.count - 1];
         let sum = sampled.map(|i| u64::from(table[i * ROW + 4]));
         (read, sum.iter().sum())
+    }
+
+    /// Writes what was read: the large headers then stand where they stood.
+    fn write(&self, bench: &Bench, name: &str) {
+        let (_, _, own, _) = LAYOUTS[self.layout as usize];
+        let (layout, count, large) = (self.layout, self.count as u32, START + self.count * own);
+        let mut rows = vec![0; self.count * ROW];
+        self.ours(&mut rows);
+        let mut written = File {
+            bytes: vec![0; self.bytes.len()],
+            ..*self
+        };
+        let write = |bytes: &mut [u8]| {
+            let (read, words) = (rows.as_ptr(), rows.len());
+            let (lent, len) = (bytes.as_mut_ptr(), bytes.len());
+            let end =
+                unsafe { hbc_write_functions(read, words, layout, START, count, large, lent, len) };
+            assert!(end <= LIMIT as u64, "rows that can be written");
+            (u64::from(count), 0)
+        };
+        write(&mut written.bytes);
+        let (mut table, mut bytes) = (vec![0; rows.len()], written.bytes.clone());
+        written.ours(&mut table);
+        assert!(table == rows, "{name}: other rows are read back");
+        let read = || (written.ours(&mut table).0, 0);
+        self.size().row(bench, name, || write(&mut bytes), read);
     }
 
     fn size(&self) -> Whole {

@@ -10,8 +10,8 @@ use crate::floors::{self, Figure};
 
 const USAGE: &str = "usage: bench [--rounds N] [--full] [--floors | --figures] [LAYER..]
 Times every layer, or those named; N rounds each (default 5), of which the best counts. --full adds sizes that take
-some minutes. --floors prints at last each figure, a ratio to the Rust, that is below its floor in docs/PERFORMANCE.md,
-and then ends with status 1; --figures prints every figure as a line of that table.";
+some minutes. --floors prints at last each figure, a ratio to the Rust or of a write to our own read, that is below its
+floor in docs/PERFORMANCE.md, and then ends with status 1; --figures prints every figure as a line of that table.";
 
 /// How many things a side read, and a sum over all their values.
 #[derive(Clone, Copy, PartialEq, Eq, Debug)]
@@ -40,7 +40,7 @@ pub struct Bench {
     pub full: bool,
     /// The layer that is timed now.
     layer: Cell<&'static str>,
-    /// Every ratio to the Rust so far.
+    /// Every ratio so far: to the Rust, or of a write to our own read.
     figures: RefCell<Vec<Figure>>,
 }
 
@@ -59,7 +59,7 @@ pub fn heading() {
 }
 
 impl Bench {
-    /// A ratio to the Rust, to be held against its floor.
+    /// A ratio, to be held against its floor.
     pub fn figure(&self, name: String, ratio: f64) {
         let layer = self.layer.get().to_string();
         self.figures

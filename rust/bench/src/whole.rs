@@ -13,11 +13,16 @@ pub struct Whole {
 }
 
 pub fn heading(first: &str, second: &str, item: &str) {
+    sides(first, second, item, ["ours", "Rust", "Rust/ours"]);
+}
+
+/// The heading of a table of any two sides: their names, and that of the second's time over the first's.
+pub fn sides(first: &str, second: &str, item: &str, [one, other, ratio]: [&str; 3]) {
     println!("\n{first}\n{second}");
     let each = format!("ns each {item}");
     println!(
-        "{:<34} {:>10} {:>12} {:>10} {:>10} {:>9}",
-        "", "KiB", "items", "ours", "Rust", "Rust/ours"
+        "{:<34} {:>10} {:>12} {one:>10} {other:>10} {ratio:>10}",
+        "", "KiB", "items"
     );
     println!("{:<58} {:>21}", "", each);
 }

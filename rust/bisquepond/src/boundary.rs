@@ -341,9 +341,8 @@ pub(crate) fn function_ground(
     id: u32,
 ) -> Result<(usize, usize), Refusal> {
     let (s, len, mut header, mut large) = (file.as_ptr(), file.len(), 0, 0);
-    let code = unsafe {
-        sys::hbc_function_ground(s, len, layout, start, id, &mut header, &mut large)
-    };
+    let code =
+        unsafe { sys::hbc_function_ground(s, len, layout, start, id, &mut header, &mut large) };
     Refusal::check(code, Place::Function).map(|_| (header, large))
 }
 
@@ -357,6 +356,22 @@ pub(crate) fn function_meets(
     let (s, len) = (file.as_ptr(), file.len());
     let code = unsafe { sys::hbc_function_meets(s, len, layout, start, id, low, high) };
     Refusal::check(code, Place::Function).map(|met| met != 0)
+}
+
+/// Where what was written ends.
+pub(crate) fn write_functions(
+    rows: &[FunctionRow],
+    layout: u32,
+    start: usize,
+    count: u32,
+    large: usize,
+    buffer: &mut [u8],
+) -> Result<u32> {
+    let (rows, len) = (words_of(rows), buffer.len());
+    let (read, words, lent) = (rows.as_ptr(), rows.len(), buffer.as_mut_ptr());
+    let code =
+        unsafe { sys::hbc_write_functions(read, words, layout, start, count, large, lent, len) };
+    Refusal::check(code, Place::Row)
 }
 
 /// How many rows were written.

@@ -2,15 +2,18 @@
 //!
 //! A header whose overflow flag is set is read from its large header, at the place packed into it, which may lie
 //! anywhere in the file. So an edit far from the table can change a row, and [`FunctionTable::refresh`] knows which.
+//!
+//! The other way round, copies of a table's rows are edited, and [`write_functions`] makes headers of them again.
 
+use alloc::vec::Vec;
 use core::fmt;
 use core::ops::{Bound, Deref, Range, RangeBounds};
 use core::slice;
 use core::str::FromStr;
 
-use crate::boundary;
 use crate::refusal::Place;
 use crate::{Reason, Refusal, Result, Table};
+use crate::{boundary, sys};
 
 pub use crate::boundary::FunctionRow;
 
@@ -346,6 +349,122 @@ impl FunctionRow {
     }
 }
 
+/// For each field that both layouts have the call that sets it.
+macro_rules! setters {
+    ($($(#[$doc:meta])* $set:ident, $name:ident = $at:literal;)*) => {
+        impl FunctionRow {
+            $(
+                $(#[$doc])*
+                ///
+                /// ```
+                /// # let mut row = bisquepond::function::FunctionRow::default();
+                #[doc = concat!("row.", stringify!($set), "(7);")]
+                #[doc = concat!("assert_eq!(row.", stringify!($name), "(), 7);")]
+                /// # assert_eq!(row.fields().filter(|(_, word)| *word != 0).count(), 1);
+                /// ```
+                pub const fn $set(&mut self, word: u32) {
+                    self.0[$at] = word;
+                }
+            )*
+        }
+    };
+}
+
+setters! {
+    /// Sets its number, which in a table that is written is that of its row.
+    set_id, id = 1;
+    /// Sets where its bytecode begins.
+    set_offset, offset = 2;
+    /// Sets how many parameters it has.
+    set_param_count, param_count = 3;
+    /// Sets how many bytes of bytecode it has.
+    set_size, size = 4;
+    /// Sets the number of the string that names it.
+    set_name, name = 5;
+    /// Sets where its further data begins. In a modern table that is written it is 0, or what [`renew_info_offsets`] sets.
+    set_info_offset, info_offset = 6;
+    /// Sets how many registers it has.
+    set_frame_size, frame_size = 7;
+    /// Sets its flags byte. A row whose overflow bit is set goes to a large header.
+    set_flags, flags = 8;
+}
+
+/// How many bits an inline header has for each word of a row, from the third on; none where the word is 0 there.
+const WIDTHS: [[u32; 14]; 2] = [
+    [25, 7, 15, 17, 25, 7, 8, 8, 8, 8, 0, 0, 0, 0],
+    [25, 5, 14, 8, 0, 8, 8, 2, 5, 5, 8, 6, 1, 1],
+];
+
+impl FunctionRow {
+    /// Sets the fields that only one of the layouts has, and with them the layout: [`rest`](Self::rest) then answers them.
+    ///
+    /// ```
+    /// # use bisquepond::{Layout, function::{self, Rest}};
+    /// # let file = [0, 1, 0, 4, 0x0A, 0x80, 1, 0, 0, 0, 0, 0x0A, 1, 2, 3, 4];
+    /// let mut row = function::read_function(&file, Layout::Legacy16, 0, 0)?;
+    /// let Some(Rest::Legacy16 { read_index, write_index, .. }) = row.rest() else { panic!() };
+    /// row.set_rest(Rest::Legacy16 { environment_size: 9, read_index, write_index });
+    /// assert_eq!((row.environment_size(), row.size()), (Some(9), 10));
+    /// # Ok::<(), bisquepond::Refusal>(())
+    /// ```
+    pub const fn set_rest(&mut self, rest: Rest) {
+        let (layout, own) = match rest {
+            Rest::Legacy16 {
+                environment_size,
+                read_index,
+                write_index,
+            } => (
+                Layout::Legacy16,
+                [environment_size, read_index, write_index, 0, 0, 0, 0],
+            ),
+            Rest::Modern12 {
+                loop_depth,
+                number_reg,
+                non_ptr_reg,
+                read_cache,
+                write_cache,
+                new_object,
+                private_name,
+            } => (
+                Layout::Modern12,
+                [
+                    loop_depth,
+                    number_reg,
+                    non_ptr_reg,
+                    read_cache,
+                    write_cache,
+                    new_object,
+                    private_name,
+                ],
+            ),
+        };
+        self.0[0] = layout.number();
+        let (_, words) = self.0.split_at_mut(9);
+        words.copy_from_slice(&own);
+    }
+
+    /// Whether it goes into its own header when it is written, and not to a large one: all its fields fit, its overflow bit
+    /// is clear and, in modern, its `info_offset` is 0. A row of no layout goes nowhere.
+    ///
+    /// ```
+    /// # use bisquepond::{Layout, function};
+    /// # let file = [0, 1, 0, 0x44, 0x0A, 0xC0, 0, 0x29, 6, 7, 0x48, 4];
+    /// let mut row = function::read_function(&file, Layout::Modern12, 0, 0)?;
+    /// row.set_size((1 << 14) - 1);
+    /// assert!(row.goes_inline());
+    /// row.set_size(1 << 14);
+    /// assert!(!row.goes_inline());
+    /// # Ok::<(), bisquepond::Refusal>(())
+    /// ```
+    pub fn goes_inline(&self) -> bool {
+        let Some(layout) = self.layout() else {
+            return false;
+        };
+        let mut fields = self.0[2..].iter().zip(WIDTHS[layout as usize]);
+        !self.is_overflowed() && fields.all(|(word, width)| word >> width == 0)
+    }
+}
+
 impl fmt::Debug for FunctionRow {
     fn fmt(&self, f: &mut fmt::Formatter<'_>) -> fmt::Result {
         let mut shown = f.debug_struct(match self.layout() {
@@ -479,12 +598,7 @@ pub struct Ground {
 /// assert_eq!((refusal.number, refusal.place), (3, 3));
 /// # Ok::<(), bisquepond::Refusal>(())
 /// ```
-pub fn function_ground(
-    file: &[u8],
-    layout: Layout,
-    start: usize,
-    id: u32,
-) -> Result<Ground> {
+pub fn function_ground(file: &[u8], layout: Layout, start: usize, id: u32) -> Result<Ground> {
     let (header, large) = boundary::function_ground(file, layout.number(), start, id)?;
     let large = (large != usize::MAX).then_some(large);
     Ok(Ground { header, large })
@@ -574,6 +688,166 @@ pub fn read_functions(
     })
 }
 
+/// Writes rows as a table of headers into a buffer that is lent, from byte `start` on, and answers where what was written
+/// ends. [`read_functions`] of the buffer, with the same layout and start, reads these rows back. No byte is written but
+/// those of headers and large headers.
+///
+/// A row goes into its own header if it fits there ([`FunctionRow::goes_inline`]). The others go to large headers, in the
+/// order of their rows, each at the next multiple of 4: the first at `large`, or behind it. Of a modern one the place says
+/// which `info_offset` the row must have, and [`renew_info_offsets`] sets it.
+///
+/// # Errors
+///
+/// `TooLong`; `PastEnd` if `start` is past the end of the buffer; then, each looked for in all rows before the next, `BadRow`
+/// with the first row as place whose layout or number is not its own, or that has more than 255 in a field of one byte;
+/// `BadInfoOffset` with the first row as place that is modern, goes to a large header, and has another `info_offset` than
+/// that; `LargeBeforeEnd` if `large` is before the table's end, even if no row needs it; `TooFewRows` if the buffer ends
+/// before what is to be written does. Refused, no byte is written.
+///
+/// ```
+/// use bisquepond::{Layout, Reason, function};
+///
+/// let mut file = [0, 1, 0, 4, 0x0A, 0x80, 1, 0, 0, 0, 0, 0x0A, 1, 2, 3, 4];
+/// let mut row = function::read_function(&file, Layout::Legacy16, 0, 0)?;
+/// row.set_size(11);
+/// let end = function::write_functions_into(&[row], Layout::Legacy16, 0, 16, &mut file)?;
+/// assert_eq!((end, file[4]), (16, 11));
+/// assert_eq!(function::read_function(&file, Layout::Legacy16, 0, 0)?, row);
+///
+/// // Of 15 bits the size has one too many. The large header would end at byte 47.
+/// row.set_size(1 << 15);
+/// let refusal = function::write_functions_into(&[row], Layout::Legacy16, 0, 16, &mut file).unwrap_err();
+/// assert_eq!(refusal.reason(), Reason::TooFewRows);
+/// let mut longer = [0; 47];
+/// assert_eq!(function::write_functions_into(&[row], Layout::Legacy16, 0, 16, &mut longer)?, 47);
+/// # Ok::<(), bisquepond::Refusal>(())
+/// ```
+pub fn write_functions_into(
+    rows: &[FunctionRow],
+    layout: Layout,
+    start: usize,
+    large: usize,
+    buffer: &mut [u8],
+) -> Result<usize> {
+    // More rows than that are refused, as so many are: their headers alone pass 2^30 bytes.
+    let count = u32::try_from(rows.len()).unwrap_or(u32::MAX);
+    let end = boundary::write_functions(rows, layout.number(), start, count, large, buffer)?;
+    Ok(end as usize)
+}
+
+/// The same into a vector, which grows by zeros if it ends before what is written does: up to `large` and the large headers
+/// behind it, whatever `large` is, to 2^30 bytes. What it holds already stays where no header is written: so rows of a file
+/// are written into the file itself, with the file's length as `large`. What stands from `large` on is overwritten.
+///
+/// # Errors
+///
+/// Those of [`write_functions_into`], `PastEnd` and `TooFewRows` where what is to be written would end past 2^30 bytes.
+/// Refused, the vector is as it was.
+///
+/// ```
+/// use bisquepond::{Layout, Reason, function};
+///
+/// // Two modern functions of size 10.
+/// let mut file = [0, 1, 0, 0x44, 0x0A, 0xC0, 0, 0x29, 6, 7, 0x48, 4].repeat(2);
+/// let table = function::read_functions(&file, Layout::Modern12, 0, 2)?;
+///
+/// // The table's own rows stay what was read; copies of them are edited.
+/// let mut rows = table.to_vec();
+/// rows[0].set_size(12);
+/// rows[1].set_size(20_000); // 14 bits are too few: it needs a large header, and with it an info_offset
+/// let large = file.len();
+/// let refusal = function::write_functions(&rows, Layout::Modern12, 0, large, &mut file).unwrap_err();
+/// assert_eq!((refusal.reason(), refusal.place), (Reason::BadInfoOffset, 1));
+/// function::renew_info_offsets(&mut rows, large);
+/// assert_eq!((rows[0].info_offset(), rows[1].info_offset()), (0, 64));
+///
+/// // The large header is at 24, and has 37 bytes.
+/// let end = function::write_functions(&rows, Layout::Modern12, 0, large, &mut file)?;
+/// assert_eq!((end, file.len(), file[4]), (61, 61, 12));
+/// let again = function::read_functions(&file, Layout::Modern12, 0, 2)?;
+/// assert_eq!(again[..], rows[..]);
+/// assert_eq!(function::function_ground(&file, Layout::Modern12, 0, 1)?.large, Some(24));
+/// # Ok::<(), bisquepond::Refusal>(())
+/// ```
+pub fn write_functions(
+    rows: &[FunctionRow],
+    layout: Layout,
+    start: usize,
+    large: usize,
+    bytes: &mut Vec<u8>,
+) -> Result<usize> {
+    let before = bytes.len();
+    let table = rows.len() * layout.header_size();
+    let table = start.saturating_add(table);
+    let grows = before <= sys::LIMIT && table <= sys::LIMIT;
+    if grows {
+        // What is refused for the rows or for the place alone is refused before anything grows.
+        let asked = write_functions_into(rows, layout, 0, large, &mut []);
+        let of_rows =
+            |refusal: Refusal| matches!(refusal.reason(), Reason::BadRow | Reason::BadInfoOffset);
+        if asked.is_err_and(of_rows) {
+            return asked;
+        }
+        if large < table {
+            return Err(Refusal::of(Reason::LargeBeforeEnd, 0, Place::Row));
+        }
+    }
+    let mut written = |room: usize| {
+        bytes.resize(before.max(room), 0);
+        write_functions_into(rows, layout, start, large, bytes)
+    };
+    let mut end = written(if grows { table } else { 0 });
+    let size = layout.large_header_size();
+    let first = large
+        .checked_next_multiple_of(4)
+        .map(|place| place.saturating_add(size));
+    if end.is_err_and(|refusal| refusal.reason() == Reason::TooFewRows)
+        && first.is_some_and(|end| end <= sys::LIMIT)
+    {
+        // Which rows need a large header the call knows: there is room for all of them, and what is too much goes again.
+        let most = large.next_multiple_of(4) + size.next_multiple_of(4) * rows.len();
+        end = written(most.min(sys::LIMIT));
+    }
+    bytes.truncate(before.max(end.unwrap_or(0)));
+    end
+}
+
+/// Gives each modern row that goes to a large header ([`FunctionRow::goes_inline`]) the `info_offset` that it must have to
+/// be written with `large` as the place for large headers: the end of its own, rounded up to a multiple of 4. Other rows
+/// stay. What the file has at the old `info_offset`, such as handlers, is not moved; and of two large headers in turn the
+/// second begins where the first one's `info_offset` leads, so that only the last can have handlers of its own there:
+/// clear the handler bit of the others.
+///
+/// A row that has an `info_offset` counts as one that needs a large header: to bring it back into its own header, set 0.
+///
+/// ```
+/// use bisquepond::{Layout, function};
+///
+/// let mut rows = function::read_functions(&[0; 36], Layout::Modern12, 0, 3)?.to_vec();
+/// rows[0].set_name(256);
+/// rows[2].set_offset(1 << 25);
+/// function::renew_info_offsets(&mut rows, 38);
+/// // The large headers are at 40 and 80.
+/// assert!(rows.iter().map(|row| row.info_offset()).eq([80, 0, 120]));
+/// let mut bytes = Vec::new();
+/// assert_eq!(function::write_functions(&rows, Layout::Modern12, 0, 38, &mut bytes)?, 117);
+/// # Ok::<(), bisquepond::Refusal>(())
+/// ```
+pub fn renew_info_offsets(rows: &mut [FunctionRow], large: usize) {
+    let modern = |row: &&mut FunctionRow| row.layout() == Some(Layout::Modern12);
+    let each = Layout::Modern12.large_header_size().next_multiple_of(4);
+    let mut place = large.checked_next_multiple_of(4);
+    for row in rows.iter_mut().filter(modern) {
+        if !row.goes_inline() {
+            place = place.and_then(|place| place.checked_add(each));
+            // Past 2^32 there is none, and the row is refused whatever it has.
+            if let Some(info_offset) = place.and_then(|place| u32::try_from(place).ok()) {
+                row.set_info_offset(info_offset);
+            }
+        }
+    }
+}
+
 /// The functions of one file, with the layout and the start that they were read by. It is a slice of rows. Two are equal
 /// if these and the rows are.
 ///
@@ -586,6 +860,23 @@ pub fn read_functions(
 /// for row in &table {
 ///     assert_eq!(row.size(), 10);
 /// }
+/// # Ok::<(), bisquepond::Refusal>(())
+/// ```
+///
+/// Its rows stay what was read, or a refresh could leave them wrong:
+///
+/// ```compile_fail,E0596
+/// # let mut table = bisquepond::function::read_functions(&[0; 16], bisquepond::Layout::Legacy16, 0, 1).unwrap();
+/// table[0].set_size(11);
+/// ```
+///
+/// Whoever edits rows takes copies of them, and writes these ([`write_functions`]):
+///
+/// ```
+/// # let table = bisquepond::function::read_functions(&[0; 16], bisquepond::Layout::Legacy16, 0, 1)?;
+/// let mut rows = table.to_vec();
+/// rows[0].set_size(11);
+/// assert_eq!((rows[0].size(), table[0].size()), (11, 0));
 /// # Ok::<(), bisquepond::Refusal>(())
 /// ```
 #[derive(Clone, Debug)]
@@ -635,6 +926,49 @@ impl FunctionTable {
     /// ```
     pub fn words(&self) -> &[u32] {
         self.rows.words()
+    }
+
+    /// Writes the table as headers into a buffer that is lent, in the layout and at the start that it was read by:
+    /// [`write_functions_into`] of its rows.
+    ///
+    /// ```
+    /// # use bisquepond::{Layout, function};
+    /// let file = [0, 1, 0, 4, 0x0A, 0x80, 1, 0, 0, 0, 0, 0x0A, 1, 2, 3, 4];
+    /// let table = function::read_functions(&file, Layout::Legacy16, 0, 1)?;
+    /// let mut buffer = [7; 18];
+    /// assert_eq!(table.write_into(16, &mut buffer)?, 16);
+    /// assert_eq!((&buffer[..16], &buffer[16..]), (&file[..], &[7, 7][..]));
+    /// # Ok::<(), bisquepond::Refusal>(())
+    /// ```
+    ///
+    /// # Errors
+    ///
+    /// Those of [`write_functions_into`], but never `BadRow`: a modern table with large headers is written by its own rows
+    /// only where they stood.
+    pub fn write_into(&self, large: usize, buffer: &mut [u8]) -> Result<usize> {
+        write_functions_into(self, self.layout, self.start, large, buffer)
+    }
+
+    /// The same into a vector, which grows: [`write_functions`] of its rows.
+    ///
+    /// ```
+    /// # use bisquepond::{Layout, function};
+    /// // One function, whose large header is at byte 1000. Its fields would fit without.
+    /// let mut file = vec![0; 1031];
+    /// file[..2].copy_from_slice(&1000u16.to_le_bytes());
+    /// (file[15], file[1008]) = (0x20, 77);
+    /// let table = function::read_functions(&file, Layout::Legacy16, 0, 1)?;
+    /// let mut short = Vec::new();
+    /// assert_eq!(table.write(16, &mut short)?, 16);
+    /// assert_eq!(function::read_functions(&short, Layout::Legacy16, 0, 1)?[0].size(), 77);
+    /// # Ok::<(), bisquepond::Refusal>(())
+    /// ```
+    ///
+    /// # Errors
+    ///
+    /// Those of [`write_functions`], but never `BadRow`.
+    pub fn write(&self, large: usize, bytes: &mut Vec<u8>) -> Result<usize> {
+        write_functions(self, self.layout, self.start, large, bytes)
     }
 
     /// The bytes whose edit is not yet taken in, since every refresh from it on was refused: the least span that holds all

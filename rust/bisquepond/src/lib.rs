@@ -19,18 +19,19 @@
 //! | module | what it reads |
 //! |---|---|
 //! | [`io`] | numbers, LEB128 and strings at a position in the bytes |
-//! | [`function`] | function headers of both layouts, and the refresh of a table after an edit |
+//! | [`function`] | function headers of both layouts, the refresh of a table after an edit, and edited rows written as headers |
 //! | [`table`] | tables of words and pairs, and strings |
 //! | [`literal`] | literals, series of them, and the keys and values of objects |
 //! | [`parsing`] | exception handlers and trailing sections |
 //! | [`debug`] | the debug section |
 //! | [`sys`] | the C calls themselves |
 //!
-//! Each call that fills rows has two forms: one ending in `_into` fills rows that are lent and allocates nothing, the
-//! other allocates what the answer needs. How much that is is decided by the bytes, never by a count alone.
+//! Each call that fills rows or bytes has two forms: one ending in `_into` fills what is lent and allocates nothing, the
+//! other allocates what the answer needs. How much that is is decided by the bytes, never by a count alone; a table that is
+//! written into a vector makes it as long as the places say that it is given.
 //!
-//! A call that is refused leaves every lent row as it was. Under *Errors* each call names what it is refused for, in the
-//! order in which it is looked for: the names are those of [`Reason`].
+//! A call that is refused leaves every lent row, and every byte of a lent buffer, as it was. Under *Errors* each call
+//! names what it is refused for, in the order in which it is looked for: the names are those of [`Reason`].
 //!
 //! It is `no_std` with `alloc`. What is linked besides the archive is `memcpy` and `memset`, which every Rust program has.
 //! Calls share no data: any number of threads may make them at once, each with rows of its own.

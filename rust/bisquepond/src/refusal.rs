@@ -10,7 +10,7 @@ pub type Result<T, E = Refusal> = core::result::Result<T, E>;
 
 /// Why a call was refused: the number of the refusal, and the place where it was met.
 ///
-/// The place is a function, a string, or how many entries or values came before; it is 0 where the call has no such
+/// The place is a function, a row, a string, or how many entries or values came before; it is 0 where the call has no such
 /// place. Shown, by `{}` or by `{:?}`, a refusal is a sentence that says which; two are equal if number and place are.
 ///
 /// ```
@@ -32,7 +32,7 @@ pub type Result<T, E = Refusal> = core::result::Result<T, E>;
 pub struct Refusal {
     /// The number that include/hbc.h has for it; from 100 on it is this crate's own.
     pub number: u32,
-    /// The function, the string, or how many entries or values came before; else 0.
+    /// The function, the row, the string, or how many entries or values came before; else 0.
     pub place: u32,
     of: Place,
 }
@@ -42,6 +42,8 @@ pub struct Refusal {
 pub(crate) enum Place {
     Nothing,
     Function,
+    /// A row that is to be written.
+    Row,
     String,
     Entries,
     Values,
@@ -128,7 +130,7 @@ reasons! {
     PastEnd = 2, "a start, seek or align goes past the end of the bytes";
     /// A read needs bytes past the end.
     Cut = 3, "a read needs bytes past the end";
-    /// A lent table has too few rows.
+    /// A lent table has too few rows, or a lent buffer too few bytes.
     TooFewRows = 4, "fewer rows were lent than the answer has";
     /// The tenth byte of a LEB128 number has bit 7 set.
     Leb128TooLong = 5, "the tenth byte of a LEB128 number has bit 7 set";
@@ -146,6 +148,14 @@ reasons! {
     TooFewToRead = 11, "fewer rows were lent to be read than the count says";
     /// A layout that there is not.
     NoSuchLayout = 12, "there is no such layout: it is legacy16 (0) or modern12 (1)";
+    /// A row to be written says what no header of its layout can: by its layout, its number, its zeros, or a number above
+    /// 255 where both kinds of header have a byte.
+    BadRow = 13, "a row to be written has a wrong layout or number, more than 255 in a field of one byte, or in legacy no zeros behind its fields";
+    /// A modern row goes to a large header, and its `info_offset` is not the place behind that, rounded up to a multiple of
+    /// 4: [`renew_info_offsets`](crate::function::renew_info_offsets) sets it.
+    BadInfoOffset = 14, "a modern row that needs a large header has not the rounded end of it as info_offset";
+    /// The place for large headers is before the table's end.
+    LargeBeforeEnd = 15, "the place for large headers is before the end of the table";
     /// The file has another length than the one that the table was read from. This crate's own.
     AnotherLength = 100, "the file has another length than the one that the table was read from";
 }
@@ -212,6 +222,21 @@ impl fmt::Display for Refusal {
                 f,
                 "the header or the large header of function {place} runs past the end of the file"
             ),
+            (Reason::PastEnd, Place::Row) => {
+                write!(f, "the table's start is past the end of the buffer")
+            }
+            (Reason::TooFewRows, Place::Row) => write!(
+                f,
+                "the buffer ends before the headers and large headers to be written do"
+            ),
+            (Reason::BadRow, Place::Row) => write!(
+                f,
+                "row {place} has another layout than the table, another id than {place}, more than 255 in a field of one byte, or in legacy no zeros behind its fields"
+            ),
+            (Reason::BadInfoOffset, Place::Row) => write!(
+                f,
+                "row {place} needs a large header, and its info_offset is not the end of that, rounded up to a multiple of 4"
+            ),
             (Reason::Cut, Place::Entries) => write!(f, "the bytes end after {place} whole entries"),
             (Reason::Cut, Place::Values) => write!(f, "the bytes end after {place} whole values"),
             (Reason::NoOverflowPair, Place::String) => {
@@ -251,12 +276,27 @@ mod tests {
                 .to_string()
         };
         let sentence = |number| said(number).split_once(": ").unwrap().1.to_string();
-        let mut all: Vec<String> = (1..=13).map(sentence).collect();
+        let mut all: Vec<String> = (1..=16).map(sentence).collect();
         assert_eq!(all[11], Reason::NoSuchLayout.to_string());
-        assert_eq!(all[12], "a refusal that this version has no words for");
+        assert_eq!(all[14], Reason::LargeBeforeEnd.to_string());
+        assert_eq!(all[15], "a refusal that this version has no words for");
         all.sort();
         all.dedup();
-        assert_eq!(all.len(), 13);
+        assert_eq!(all.len(), 16);
+    }
+
+    /// A writer's refusals speak of its rows and its buffer, a reader's of functions and a file.
+    #[test]
+    fn a_row_that_is_written_is_named() {
+        let said = |reason, of| Refusal::of(reason, 7, of).to_string();
+        for reason in [Reason::BadRow, Reason::BadInfoOffset] {
+            assert!(said(reason, Place::Row).contains(": row 7 "), "{reason:?}");
+        }
+        for reason in [Reason::PastEnd, Reason::TooFewRows] {
+            let (row, other) = (said(reason, Place::Row), said(reason, Place::Function));
+            let told = (row.contains("buffer"), other.contains("buffer"));
+            assert_eq!(told, (true, false), "{reason:?}");
+        }
     }
 
     #[test]

@@ -21,7 +21,7 @@ pub const fn place(code: u64) -> u32 {
     code as u32
 }
 
-/// The most bytes that are read: a longer slice is refused 1. `HBC_LIMIT`.
+/// The most bytes that are read, and that a buffer may have: a longer slice is refused 1. `HBC_LIMIT`.
 ///
 /// ```
 /// assert_eq!(bisquepond::sys::LIMIT, 1 << 30);
@@ -64,6 +64,7 @@ unsafe extern "C" {
     pub fn hbc_read_function(file: *const u8, file_len: usize, layout: u32, start: usize, id: u32, table: *mut u32, table_len: usize) -> u64;
     pub fn hbc_function_ground(file: *const u8, file_len: usize, layout: u32, start: usize, id: u32, header: *mut usize, large: *mut usize) -> u64;
     pub fn hbc_function_meets(file: *const u8, file_len: usize, layout: u32, start: usize, id: u32, low: usize, high: usize) -> u64;
+    pub fn hbc_write_functions(rows: *const u32, rows_len: usize, layout: u32, start: usize, count: u32, large: usize, buffer: *mut u8, buffer_len: usize) -> u64;
 
     pub fn hbc_read_handlers(file: *const u8, file_len: usize, functions: *const u32, functions_len: usize, count: u32, rows: *mut u32, rows_len: usize, total: *mut usize) -> u64;
     pub fn hbc_trailing_sections(file: *const u8, file_len: usize, start: usize, regexps: u32, storage: u32, cjs: u32, with_sources: bool, sources: u32, rows: *mut u32, rows_len: usize) -> u64;

@@ -399,10 +399,28 @@ fn ground_of_both_kinds() {
         let mut file = flagged(layout, 64, 40, 0);
         let ground = |file: &[u8], id| function::function_ground(file, layout, 0, id);
         let second = layout.header_size();
-        assert_eq!(ground(&file, 0), Ok(Ground { header: 0, large: Some(40) }));
-        assert_eq!(ground(&file, 1), Ok(Ground { header: second, large: None }));
+        assert_eq!(
+            ground(&file, 0),
+            Ok(Ground {
+                header: 0,
+                large: Some(40)
+            })
+        );
+        assert_eq!(
+            ground(&file, 1),
+            Ok(Ground {
+                header: second,
+                large: None
+            })
+        );
         file[second - 1] = 0;
-        assert_eq!(ground(&file, 0), Ok(Ground { header: 0, large: None }));
+        assert_eq!(
+            ground(&file, 0),
+            Ok(Ground {
+                header: 0,
+                large: None
+            })
+        );
     }
 }
 
@@ -411,16 +429,31 @@ fn ground_of_both_kinds() {
 fn ground_and_span_are_refused() {
     let layout = Layout::Legacy16;
     let meets = |start, id, low, high| {
-        let span = std::ops::Range { start: low, end: high };
+        let span = std::ops::Range {
+            start: low,
+            end: high,
+        };
         function::function_meets(&P1, layout, start, id, span)
     };
     let ground = |start, id| function::function_ground(&P1, layout, start, id);
     assert_eq!(meets(0, 0, 15, 16), Ok(true));
     assert_eq!(meets(0, 0, 16, 16), Ok(false));
-    assert_eq!((refused(meets(17, 0, 3, 2)), refused(ground(17, 0))), ((2, 0), (2, 0)));
-    assert_eq!((refused(meets(0, 9, 3, 2)), refused(meets(0, 9, 0, 17))), ((10, 0), (10, 0)));
-    assert_eq!((refused(meets(0, 9, 0, 16)), refused(ground(0, 9))), ((3, 9), (3, 9)));
-    assert_eq!((refused(meets(16, 0, 0, 16)), refused(ground(1, 0))), ((3, 0), (3, 0)));
+    assert_eq!(
+        (refused(meets(17, 0, 3, 2)), refused(ground(17, 0))),
+        ((2, 0), (2, 0))
+    );
+    assert_eq!(
+        (refused(meets(0, 9, 3, 2)), refused(meets(0, 9, 0, 17))),
+        ((10, 0), (10, 0))
+    );
+    assert_eq!(
+        (refused(meets(0, 9, 0, 16)), refused(ground(0, 9))),
+        ((3, 9), (3, 9))
+    );
+    assert_eq!(
+        (refused(meets(16, 0, 0, 16)), refused(ground(1, 0))),
+        ((3, 0), (3, 0))
+    );
 }
 
 /// A count that the bytes do not bear out is refused as the lent form refuses it, and costs no memory.

@@ -196,7 +196,7 @@ fn refusals_have_the_same_names() {
     let here = Reason::ALL.iter().filter(own);
     let here = here.map(|reason| (upper(&format!("{reason:?}")), reason.number()));
     assert_eq!(in_c, here.collect());
-    assert_eq!(in_c.len(), 12);
+    assert_eq!(in_c.len(), 15);
 }
 
 /// A row of these words, counting from 0: each is the word of its own number.

@@ -38,7 +38,12 @@ fn file(addresses: &[u32]) -> Vec<u8> {
 
 fn on_a_stack_of(kib: usize, file: Vec<u8>, offset: u32) -> bisquepond::Result<DebugInfo> {
     let read = move || read_debug(&file, offset);
-    thread::Builder::new().stack_size(kib << 10).spawn(read).unwrap().join().unwrap()
+    thread::Builder::new()
+        .stack_size(kib << 10)
+        .spawn(read)
+        .unwrap()
+        .join()
+        .unwrap()
 }
 
 #[test]
@@ -58,7 +63,11 @@ fn no_section_and_a_cut_one() {
 fn falling_callees() {
     let addresses: Vec<u32> = (0..70_000).rev().collect();
     let debug = on_a_stack_of(512, file(&addresses), 1).unwrap();
-    let read: Vec<u32> = debug.callees.iter().map(|callee| callee.address()).collect();
+    let read: Vec<u32> = debug
+        .callees
+        .iter()
+        .map(|callee| callee.address())
+        .collect();
     assert_eq!(read, (0..70_000).collect::<Vec<u32>>());
 }
 
@@ -66,6 +75,10 @@ fn falling_callees() {
 #[test]
 fn the_greatest_address_first() {
     let debug = on_a_stack_of(512, file(&[u32::MAX, 7, u32::MAX, 0]), 1).unwrap();
-    let read: Vec<u32> = debug.callees.iter().map(|callee| callee.address()).collect();
+    let read: Vec<u32> = debug
+        .callees
+        .iter()
+        .map(|callee| callee.address())
+        .collect();
     assert_eq!(read, [0, 7, u32::MAX]);
 }

@@ -1,11 +1,17 @@
-//! Tables that are lent to a call: every word can be seen to have been written or to have stayed, also those behind the
-//! lent ones.
+//! Tables and buffers that are lent to a call: every word can be seen to have been written or to have stayed, also those
+//! behind the lent ones.
 
 use crate::case::said;
 
 /// A word of a lent table, and what it holds before the call.
 pub trait Word: Copy + Eq + std::fmt::Debug {
     fn before(i: usize) -> Self;
+}
+
+impl Word for u8 {
+    fn before(i: usize) -> u8 {
+        0xA5 ^ i as u8
+    }
 }
 
 impl Word for u32 {
@@ -21,7 +27,7 @@ impl Word for u64 {
 }
 
 /// Words behind the lent ones, which no call may touch.
-const BEHIND: usize = 16;
+pub const BEHIND: usize = 16;
 
 /// These words, then as many more as are not written where `len` are lent, and those behind.
 pub fn lent<T: Word>(mut words: Vec<T>, len: usize) -> Vec<T> {

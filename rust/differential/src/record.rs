@@ -4,6 +4,8 @@ use harness::count;
 
 /// What every word of a lent table holds before a call, and every 64-bit one.
 pub const FILL: u32 = 0xA5A5_A5A5;
+/// The same of a byte of a lent buffer.
+pub const FILL_BYTE: u8 = 0xA5;
 const FILL_LONG: u64 = 0xA5A5_A5A5_A5A5_A5A5;
 
 /// The bytes for which the program has room.
@@ -26,6 +28,7 @@ pub const READ_HANDLERS: u64 = 26;
 pub const TRAILING_SECTIONS: u64 = 27;
 pub const READ_DEBUG: u64 = 28;
 pub const FUNCTION_GROUND: u64 = 29;
+pub const WRITE_FUNCTIONS: u64 = 30;
 
 /// No call: the records before it are counted, and told under the name that follows.
 const REPORT: u64 = 0;

@@ -62,6 +62,25 @@ pub fn rows(bench: &Bench) {
             let table = Table::new(layout, n, FAR, any_flag(large));
             (0, table.refresh(1, 1))
         });
+        let call = named("write_functions");
+        row(bench, &call, "any row inline or large", |n| {
+            Rows::new(layout, n, |random, _| random.below(2) == 0).write()
+        });
+        row(bench, &call, "every row large", |n| {
+            Rows::new(layout, n, |_, _| true).write()
+        });
+        row(bench, &call, "the same, a byte short", |n| {
+            let mut rows = Rows::new(layout, n, |_, _| true);
+            rows.buffer.pop();
+            let (_, write) = rows.write();
+            (refused(4, 0), write)
+        });
+        row(bench, &call, "any row, the last one wrong", |n| {
+            let mut rows = Rows::new(layout, n, |random, _| random.below(2) == 0);
+            rows.words[(n - 1) * ROW + 1] = 0;
+            let (_, write) = rows.write();
+            (refused(13, n - 1), write)
+        });
         row(
             bench,
             &named("read_function"),
@@ -103,6 +122,53 @@ fn any_flag(large: usize) -> impl Fn(&mut Random, usize) -> Option<usize> {
     move |random, _| match random.below(2) {
         0 => None,
         _ => Some(random.below(FAR - large)),
+    }
+}
+
+/// Rows to be written from byte 0 on, with their large headers behind the table; and the bytes for them.
+struct Rows {
+    layout: u32,
+    count: usize,
+    words: Vec<u32>,
+    buffer: Vec<u8>,
+}
+
+impl Rows {
+    /// Rows of 0 but for their number, of which those that are large have fields of all bits.
+    fn new(layout: u32, count: usize, large: impl Fn(&mut Random, usize) -> bool) -> Rows {
+        let (.., own, size) = LAYOUTS[layout as usize];
+        let mut random = Random::new(1);
+        let (mut words, mut place) = (Vec::with_capacity(count * ROW), own * count);
+        let mut end = place;
+        for id in 0..count {
+            let mut row = [0; ROW];
+            if large(&mut random, id) {
+                row[2..8].fill(u32::MAX);
+                end = place + size;
+                place = end.next_multiple_of(4);
+                row[6] = place as u32;
+            }
+            (row[0], row[1]) = (layout, id as u32);
+            words.extend(row);
+        }
+        Rows {
+            layout,
+            count,
+            words,
+            buffer: vec![0; end],
+        }
+    }
+
+    fn write(mut self) -> (u64, impl FnMut() -> u64) {
+        let (.., own, _) = LAYOUTS[self.layout as usize];
+        let answer = self.buffer.len() as u64;
+        let write = move || {
+            let (read, words) = (self.words.as_ptr(), self.words.len());
+            let (lent, len) = (self.buffer.as_mut_ptr(), self.buffer.len());
+            let (count, large) = (self.count as u32, own * self.count);
+            unsafe { hbc_write_functions(read, words, self.layout, 0, count, large, lent, len) }
+        };
+        (answer, write)
     }
 }
 

@@ -1,5 +1,7 @@
 //! One call on function headers.
 
+pub mod write;
+
 use bisquepond::function::FunctionRow;
 use bisquepond::sys::*;
 use bisquepond::Row as _;
@@ -364,8 +366,11 @@ impl Compare for Case<'_> {
     }
 }
 
-/// `OP LAYOUT START COUNT LOW HIGH FILE TABLE`, as a difference prints them; or `Zeros ..`.
+/// `OP LAYOUT START COUNT LOW HIGH FILE TABLE`, as a difference prints them; or `Write ..`, or `Zeros ..`.
 pub fn replay(words: &mut Words) -> Result<String, Difference> {
+    if words.called("Write") {
+        return write::replay(words);
+    }
     if words.called("Zeros") {
         return super::differences::replay(words);
     }

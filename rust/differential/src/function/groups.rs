@@ -1,5 +1,7 @@
 //! The groups of inputs on which the two sides of the function tables are compared.
 
+pub mod write;
+
 use bisquepond::sys::LIMIT;
 use harness::Random;
 
@@ -21,6 +23,7 @@ pub fn compare(run: &mut Run) -> Compared {
         let mut random = run.random(7);
         (0..20_000).try_for_each(|_| edit(run, &mut random))
     })?;
+    write::compare(run)?;
     run.group("a file of 2^30 bytes", longest)?;
     run.group("2^30 + 1 bytes, against docs/FORMAT.md", too_long)?;
     if run.full {
@@ -563,7 +566,7 @@ fn many(run: &mut Run) -> Compared {
     Ok(())
 }
 
-/// Edits as above, and each call with numbers of any size.
+/// Edits as above, each call with numbers of any size, and rows that are written.
 fn random(run: &mut Run) -> Compared {
     let mut random = run.random(10);
     while run.more() {
@@ -595,6 +598,7 @@ fn random(run: &mut Run) -> Compared {
             };
             run.compare(&any)?;
         }
+        write::any(run, &mut random)?;
     }
     Ok(())
 }

@@ -1,5 +1,7 @@
 //! Hostile inputs for the function tables.
 
+mod write;
+
 use bisquepond::sys::LIMIT;
 use harness::Random;
 use published::format::FLAG_OVERFLOWED;
@@ -52,8 +54,12 @@ pub fn soak(soak: &mut Soak) -> Compared {
             )?;
         }
         most(soak, layout)?;
+        write::soak(soak, layout)?;
     }
-    soak.at_random(1 << 16, any)
+    soak.at_random(1 << 16, |random| {
+        any(random)?;
+        write::any(random)
+    })
 }
 
 /// A header that is flagged and names byte 0.

@@ -1,5 +1,7 @@
 //! A sample of what is right of function tables.
 
+mod write;
+
 use harness::Random;
 
 use super::case::Op::*;
@@ -10,7 +12,7 @@ use crate::inputs::any_bytes;
 use crate::record::{Record, Sample, FILL};
 use crate::record::{FUNCTION_GROUND, FUNCTION_MEETS, READ_FUNCTION, READ_FUNCTIONS, REFRESH_FUNCTIONS};
 
-const NAMES: [&str; 10] = [
+const NAMES: [&str; 12] = [
     "read_functions legacy16",
     "read_functions modern12",
     "read_function legacy16",
@@ -21,6 +23,8 @@ const NAMES: [&str; 10] = [
     "function_meets modern12",
     "function_ground legacy16",
     "function_ground modern12",
+    "write_functions legacy16",
+    "write_functions modern12",
 ];
 
 /// The rows for which the program has room, besides one that is not lent.
@@ -43,7 +47,8 @@ fn answers(group: usize) -> &'static [u32] {
         1 => &[0, 2, 3],
         2 => &[0, 2, 3, 4, 10],
         3 => &[0, 2, 3, 10],
-        _ => &[0, 2, 3],
+        4 => &[0, 2, 3],
+        _ => write::answers(group - write::GROUP),
     }
 }
 
@@ -79,6 +84,7 @@ pub fn write(mut random: Random) -> (Vec<u8>, Vec<String>) {
     while sample.fewer(730) {
         edit(&mut sample, &mut random);
     }
+    write::write(&mut sample, &mut random);
     sample.done(answers)
 }
 

@@ -1,4 +1,5 @@
-use Rattle.hbc_function_record.specs.Record.{legacyOf}
+use Rattle.hbc_bits.specs.Fields.{fieldsOf}
+use Rattle.hbc_function_record.specs.Record.{legacyOf, legacyBy}
 use borrow.Author.Needs.{needs}
 use Rattle.hbc_function_record.proofs.fields.legacy_inline.Statement.{statement}
 use Rattle.hbc_function_record.proofs.fields.legacy_inline.Tie as tie
@@ -34,7 +35,7 @@ cut-requires-10 : tie.Need-cut-requires-10
 cut-requires-10 c κs = search needs
 
 returns : tie.Need-returns
-unfolding legacyOf
+unfolding legacyOf legacyBy fieldsOf
 returns c = cc
 
 pub legacy-inline-spec : {M : Type 1} → statement M

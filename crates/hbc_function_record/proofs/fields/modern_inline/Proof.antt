@@ -1,4 +1,5 @@
-use Rattle.hbc_function_record.specs.Record.{modernOf}
+use Rattle.hbc_bits.specs.Fields.{fieldsOf}
+use Rattle.hbc_function_record.specs.Record.{modernOf, modernBy}
 use borrow.Author.Needs.{needs}
 use Rattle.hbc_function_record.proofs.fields.modern_inline.Statement.{statement}
 use Rattle.hbc_function_record.proofs.fields.modern_inline.Tie as tie
@@ -43,7 +44,7 @@ cut-requires-13 : tie.Need-cut-requires-13
 cut-requires-13 c κs = search needs
 
 returns : tie.Need-returns
-unfolding modernOf
+unfolding modernOf modernBy fieldsOf
 returns c = λ i. record {
   id = c .before .before .before .before .before .before .before .before .before .before .before .before .before .args .id;
   offset = c .before .before .before .before .before .before .before .before .before .before .before .before .cut .ensures i;

@@ -6,10 +6,10 @@ use Rattle.replay.proofs.records.are.Tie as tie
 
 -- the numbers in front of i are the ones listed, of which no contract speaks: only the bound is kept
 abbrev Inv-loop : tie.InvT-loop
-Inv-loop «record» k t list at₀ i₀ at i = i ≤ length t
+Inv-loop «record» k t list same₀ at₀ i₀ same at i = i ≤ length t
 
 abbrev μ-loop : tie.MeasureT-loop
-μ-loop «record» k t list at₀ i₀ at i = length t - i
+μ-loop «record» k t list same₀ at₀ i₀ same at i = length t - i
 
 field-requires : tie.Need-field-requires Inv-loop μ-loop
 field-requires c κs = search needs
@@ -20,14 +20,11 @@ loop-holds c = search needs
 listed-requires : tie.Need-listed-requires Inv-loop μ-loop
 listed-requires c κs = search needs
 
-mul-if1 : tie.Need-mul-if1 Inv-loop μ-loop
-mul-if1 c = search needs
+mul-same : tie.Need-mul-same Inv-loop μ-loop
+mul-same c = search needs
 
-shared-slice-read-if1 : tie.Need-shared-slice-read-if1 Inv-loop μ-loop
-shared-slice-read-if1 c = search needs
-
-returns : tie.Need-returns Inv-loop μ-loop
-returns c = search needs
+shared-slice-read-same : tie.Need-shared-slice-read-same Inv-loop μ-loop
+shared-slice-read-same c = search needs
 
 add-i : tie.Need-add-i Inv-loop μ-loop
 add-i c = search needs
@@ -38,8 +35,8 @@ loop-less c = search needs
 loop-again : tie.Need-loop-again Inv-loop μ-loop
 loop-again c = search needs
 
-returns-2 : tie.Need-returns-2 Inv-loop μ-loop
-returns-2 c = search needs
+returns : tie.Need-returns Inv-loop μ-loop
+returns c = search needs
 
 pub are-spec : {M : Type 1} → statement M
 are-spec =
@@ -50,10 +47,9 @@ are-spec =
     field-requires
     loop-holds
     listed-requires
-    mul-if1
-    shared-slice-read-if1
-    returns
+    mul-same
+    shared-slice-read-same
     add-i
     loop-less
     loop-again
-    returns-2)
+    returns)

@@ -6,10 +6,10 @@ use Rattle.replay.proofs.records.words_are.Tie as tie
 
 -- the words in front of i are the ones listed, of which no contract speaks: only the bound is kept
 abbrev Inv-loop : tie.InvT-loop
-Inv-loop «record» k t list at₀ i₀ at i = i ≤ length t
+Inv-loop «record» k t list same₀ at₀ i₀ same at i = i ≤ length t
 
 abbrev μ-loop : tie.MeasureT-loop
-μ-loop «record» k t list at₀ i₀ at i = length t - i
+μ-loop «record» k t list same₀ at₀ i₀ same at i = length t - i
 
 field-requires : tie.Need-field-requires Inv-loop μ-loop
 field-requires c κs = search needs
@@ -29,9 +29,6 @@ shared-slice-read-wide c = search needs
 wide-requires : tie.Need-wide-requires Inv-loop μ-loop
 wide-requires c κs = search needs
 
-returns : tie.Need-returns Inv-loop μ-loop
-returns c = search needs
-
 add-i : tie.Need-add-i Inv-loop μ-loop
 add-i c = search needs
 
@@ -41,8 +38,8 @@ loop-less c = search needs
 loop-again : tie.Need-loop-again Inv-loop μ-loop
 loop-again c = search needs
 
-returns-2 : tie.Need-returns-2 Inv-loop μ-loop
-returns-2 c = search needs
+returns : tie.Need-returns Inv-loop μ-loop
+returns c = search needs
 
 pub words-are-spec : {M : Type 1} → statement M
 words-are-spec =
@@ -56,8 +53,7 @@ words-are-spec =
     mul-wide
     shared-slice-read-wide
     wide-requires
-    returns
     add-i
     loop-less
     loop-again
-    returns-2)
+    returns)

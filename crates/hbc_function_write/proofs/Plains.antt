@@ -1,0 +1,352 @@
+-- Bits that are clear in every word of a row: what does not fit, and what should be 0, all at once.
+use Prim.Native.Nat.{ℕ, zero, suc, _+_, _*_, _-_, _/_, _%_, _^_, _≤_, _<_}
+use mathlib.Core.Path.{_≡_, refl, sym, ap, _∙_}
+use mathlib.Core.List.{List, [], _∷_}
+use mathlib.Core.Bool.{Bool, true, false, cond}
+use native.Mathlib.Omega.{arith}
+use native.Mathlib.Numerals.{add-one}
+use native.Mathlib.Nat.{add-zero, mod-eq-of-lt, mod-lt, suc-mul, zero-mod, zero-mul}
+use lib.Bits.{bitAnd, bitOr, or-add-and, and-le-l, and-le-r, and-high, and-mask, and-block, and-zero-r, or-zero-l}
+use lib.Pow.{pow-pos, shr-lt}
+use lib.Dec.{ltb, eqb, lit<}
+use lib.ListN.{length, getD, drop, length-take, List·getD-eq-default}
+use lib.Seq.{getD-take, getD-drop}
+use borrow.Author.Tests.{ltb-true, ltb-false, eqb-true, eq-eqb}
+use Rattle.hbc_bits.proofs.Fields.{both}
+use Rattle.hbc_rows.specs.Rows.{rowAt}
+use Rattle.hbc_function_record.specs.declared.Layout.{Layout}
+use Rattle.hbc_function_record.specs.declared.Layout.the-variants as lay
+use Rattle.hbc_function_record.specs.Row.{width, numberIn}
+use Rattle.hbc_function_bytes.specs.Bytes.{goesInline, rightRow}
+use Rattle.hbc_function_bytes.proofs.Sums.{same-test, inTheWay, none-in-the-way, legacy-way, modern-way, amiss, none-amiss, wrong-layout, wrong-id, legacy-amiss, modern-amiss}
+use Rattle.hbc_function_write.specs.Private.{clear, Plain}
+
+-- word k of row i
+pub row-word : (rows : List ℕ) (i k : ℕ) → k < width → getD (rowAt width rows i) k 0 ≡ getD rows (i * width + k) 0
+unfolding rowAt
+row-word rows i k h = rw (getD-take width (drop (i * width) rows) k 0 h, getD-drop)
+
+-- ---- the loop
+
+or-none : (a b : ℕ) → bitOr a b ≡ 0 → (a ≡ 0) × (b ≡ 0)
+or-none a b h =
+    let e = or-add-and a b in
+    let l = and-le-l a b in
+    let r = and-le-r a b in
+    (omega arith, omega arith)
+
+or-test : (a b : ℕ) → eqb (bitOr a b) 0 ≡ cond (eqb a 0) (eqb b 0) false
+or-test a b =
+    same-test (eqb (bitOr a b) 0) (cond (eqb a 0) (eqb b 0) false)
+    (λ h. let z = or-none a b (eqb-true (bitOr a b) 0 h) in rw (eq-eqb a 0 (z .0), eq-eqb b 0 (z .1)))
+    (λ h.
+    let t = both (eqb a 0) h in
+    let x : a ≡ 0 = eqb-true a 0 (t .0) in
+    let y : b ≡ 0 = eqb-true b 0 (t .1) in
+    eq-eqb (bitOr a b) 0 (rw (x, y) (or-zero-l 0)))
+
+-- what is or-ed of words 0 to k - 1 is 0 exactly when they are clear
+pub record Clearing (w masks : List ℕ) (k set : ℕ) : Type 0 where
+  pub within : k ≤ width
+  pub tests : eqb set 0 ≡ clear masks w k
+
+pub clearing-first : (w masks : List ℕ) → Clearing w masks 0 0
+unfolding clear
+clearing-first w masks = record { within = omega arith; tests = refl }
+
+pub clearing-more : (rows : List ℕ) (i : ℕ) {masks : List ℕ} {k set : ℕ} → Clearing (rowAt width rows i) masks k set → k < width
+    → Clearing (rowAt width rows i) masks (k + 1) (bitOr set (bitAnd (getD rows (i * width + k) 0) (getD masks k 0)))
+unfolding clear
+clearing-more rows i {masks} {k} {set} v h =
+    record {
+      within = omega arith;
+      tests =
+          or-test set (bitAnd (getD rows (i * width + k) 0) (getD masks k 0))
+          ∙ rw (add-one k, row-word rows i k h, v .tests);
+    }
+
+pub clearing-done : {w masks : List ℕ} {k set : ℕ} → Clearing w masks k set → width ≤ k → eqb set 0 ≡ clear masks w width
+clearing-done {w} {masks} {k} v h = let l = v .within in let e : k ≡ width = omega arith in v .tests ∙ ap (clear masks w) e
+
+-- ---- word by word
+
+more : (P : ℕ → Type 0) (n : ℕ) → ((k : ℕ) → k < n → P k) → P n → (k : ℕ) → k < suc n → P k
+more P n f p k h = by (ltb k n) refl
+  where
+    by : (b : Bool) → ltb k n ≡ b → P k
+    by true e = f k (ltb-true k n e)
+    by false e = let g = ltb-false k n e in let q : n ≡ k = omega arith in mathlib.Core.Path.subst P q p
+
+clear-all : (masks w : List ℕ) (n : ℕ) → clear masks w n ≡ true → (k : ℕ) → k < n → bitAnd (getD w k 0) (getD masks k 0) ≡ 0
+unfolding clear
+clear-all masks w zero e k h = absurd (omega arith)
+clear-all masks w (suc n) e k h =
+    let t = both (clear masks w n) e in
+    more (λ k. bitAnd (getD w k 0) (getD masks k 0) ≡ 0) n (clear-all masks w n (t .0)) (eqb-true (bitAnd (getD w n 0) (getD masks n 0)) 0 (t .1)) k h
+
+all-clear : (masks w : List ℕ) (n : ℕ) → ((k : ℕ) → k < n → bitAnd (getD w k 0) (getD masks k 0) ≡ 0) → clear masks w n ≡ true
+unfolding clear
+all-clear masks w zero f = refl
+all-clear masks w (suc n) f =
+    rw (all-clear masks w n (λ k h. f k (omega arith)), eq-eqb (bitAnd (getD w n 0) (getD masks n 0)) 0 (f n (omega arith)))
+
+module _ (P : ℕ → Type 0) (p0 : P 0) (p1 : P 1) (p2 : P 2) (p3 : P 3) (p4 : P 4) (p5 : P 5) (p6 : P 6) (p7 : P 7) (p8 : P 8) (p9 : P 9) (p10 : P 10)
+    (p11 : P 11) (p12 : P 12) (p13 : P 13) (p14 : P 14) (p15 : P 15) where
+  each-word : (k : ℕ) → k < width → P k
+  each-word =
+      more P 15 (more P 14 (more P 13 (more P 12 (more P 11 (more P 10 (more P 9 (more P 8 (more P 7 (more P 6 (more P 5 (more P 4 (more P 3 (more P 2
+      (more P 1 (more P 0 (λ k h. absurd (omega arith)) p0) p1) p2) p3) p4) p5) p6) p7) p8) p9) p10) p11) p12) p13) p14) p15
+
+-- ---- what a clear word is
+
+none : (a b : ℕ) → 0 < b → a * b ≡ 0 → a ≡ 0
+none zero b h e = refl
+none (suc a) b h e = absurd (omega (arith, suc-mul a b))
+
+-- nothing above bit w
+high-clear : (j w x : ℕ) → x < 2 ^ (j + w) → bitAnd x (2 ^ (j + w) - 2 ^ w) ≡ 0 → x / 2 ^ w ≡ 0
+high-clear j w x h e =
+    let l : x / 2 ^ w < 2 ^ j = shr-lt j w h in
+    let p : x / 2 ^ w * 2 ^ w ≡ 0 = rw (mod-eq-of-lt l) at (sym (and-high x j w) ∙ e) in
+    none (x / 2 ^ w) (2 ^ w) (pow-pos w) p
+
+clear-high : (j w x : ℕ) → x / 2 ^ w ≡ 0 → bitAnd x (2 ^ (j + w) - 2 ^ w) ≡ 0
+clear-high j w x e = and-high x j w ∙ rw (e, zero-mod (2 ^ j)) (zero-mul (2 ^ w))
+
+-- flags: a byte, whose bit 5 is clear
+flags-parts : (x : ℕ) → bitAnd x 4294967072 ≡ x / 256 % 16777216 * 256 + x % 256 / 32 % 2 * 32
+flags-parts x =
+    let q : x / 256 * 2 ^ 8 + x % 256 ≡ x = omega arith in
+    let b : bitAnd (x / 256 * 2 ^ 8 + x % 256) (16777215 * 2 ^ 8 + 32) ≡ bitAnd (x / 256) 16777215 * 2 ^ 8 + bitAnd (x % 256) 32 =
+    and-block 8 (x / 256) 16777215 (x % 256) 32 (mod-lt x (lit< tt)) (lit< tt) in
+    let m : bitAnd (x / 256) 16777215 ≡ x / 256 % 16777216 = and-mask (x / 256) 24 in
+    let n : bitAnd (x % 256) 32 ≡ x % 256 / 32 % 2 * 32 = and-high (x % 256) 1 5 in
+    rw q at b ∙ rw (m, n)
+
+flags-clear : (x : ℕ) → x < 2 ^ 32 → bitAnd x 4294967072 ≡ 0 → (x / 256 ≡ 0) × (x / 32 % 2 ≡ 0)
+flags-clear x h e =
+    let s : x / 256 % 16777216 * 256 + x % 256 / 32 % 2 * 32 ≡ 0 = sym (flags-parts x) ∙ e in
+    let m : x / 256 % 16777216 ≡ 0 = omega arith in
+    let l : x / 256 < 16777216 = omega arith in
+    let a : x / 256 ≡ 0 = sym (mod-eq-of-lt l) ∙ m in
+    let z : x % 256 / 32 % 2 ≡ 0 = omega arith in
+    let y : x % 256 ≡ x = omega arith in
+    (a, rw y at z)
+
+clear-flags : (x : ℕ) → x / 256 ≡ 0 → x / 32 % 2 ≡ 0 → bitAnd x 4294967072 ≡ 0
+clear-flags x a b =
+    let y : x % 256 ≡ x = omega arith in
+    let z : x % 256 / 32 % 2 ≡ 0 = rw y b in
+    flags-parts x ∙ omega arith
+
+whole-clear : (x : ℕ) → x < 2 ^ 32 → bitAnd x 4294967295 ≡ 0 → x ≡ 0
+whole-clear x h e = sym (mod-eq-of-lt h) ∙ sym (and-mask x 32) ∙ e
+
+clear-whole : (x : ℕ) → x ≡ 0 → bitAnd x 4294967295 ≡ 0
+clear-whole x e = and-mask x 32 ∙ rw e
+
+-- ---- the bits that the code names
+
+abbrev pub legacyMasks : List ℕ
+legacyMasks = 0 ∷ 0 ∷ 0xFE000000 ∷ 0xFFFFFF80 ∷ 0xFFFF8000 ∷ 0xFFFE0000 ∷ 0xFE000000 ∷ 0xFFFFFF80 ∷ 0xFFFFFF20 ∷ 0xFFFFFF00 ∷ 0xFFFFFF00 ∷ 0xFFFFFF00 ∷ 0 ∷ 0 ∷ 0 ∷ 0 ∷ []
+
+abbrev pub legacyZeros : List ℕ
+legacyZeros = 0 ∷ 0 ∷ 0 ∷ 0 ∷ 0 ∷ 0 ∷ 0 ∷ 0 ∷ 0 ∷ 0 ∷ 0 ∷ 0 ∷ 0xFFFFFFFF ∷ 0xFFFFFFFF ∷ 0xFFFFFFFF ∷ 0xFFFFFFFF ∷ []
+
+abbrev pub modernMasks : List ℕ
+modernMasks = 0 ∷ 0 ∷ 0xFE000000 ∷ 0xFFFFFFE0 ∷ 0xFFFFC000 ∷ 0xFFFFFF00 ∷ 0xFFFFFFFF ∷ 0xFFFFFF00 ∷ 0xFFFFFF20 ∷ 0xFFFFFFFC ∷ 0xFFFFFFE0 ∷ 0xFFFFFFE0 ∷ 0xFFFFFF00 ∷ 0xFFFFFFC0 ∷ 0xFFFFFFFE ∷ 0xFFFFFFFE ∷ []
+
+module _ (w : List ℕ) (u : (k : ℕ) → getD w k 0 < 2 ^ 32) where
+  -- clear exactly when it goes inline
+  pub legacy-inline : clear legacyMasks w width ≡ goesInline lay.Legacy16 w
+  legacy-inline =
+      same-test (clear legacyMasks w width) (goesInline lay.Legacy16 w)
+      (λ h.
+      let c = clear-all legacyMasks w width h in
+      let c2 : getD w 2 0 / 33554432 ≡ 0 = high-clear 7 25 (getD w 2 0) (u 2) (c 2 (lit< tt)) in
+      let c3 : getD w 3 0 / 128 ≡ 0 = high-clear 25 7 (getD w 3 0) (u 3) (c 3 (lit< tt)) in
+      let c4 : getD w 4 0 / 32768 ≡ 0 = high-clear 17 15 (getD w 4 0) (u 4) (c 4 (lit< tt)) in
+      let c5 : getD w 5 0 / 131072 ≡ 0 = high-clear 15 17 (getD w 5 0) (u 5) (c 5 (lit< tt)) in
+      let c6 : getD w 6 0 / 33554432 ≡ 0 = high-clear 7 25 (getD w 6 0) (u 6) (c 6 (lit< tt)) in
+      let c7 : getD w 7 0 / 128 ≡ 0 = high-clear 25 7 (getD w 7 0) (u 7) (c 7 (lit< tt)) in
+      let c8 = flags-clear (getD w 8 0) (u 8) (c 8 (lit< tt)) in
+      let c9 : getD w 9 0 / 256 ≡ 0 = high-clear 24 8 (getD w 9 0) (u 9) (c 9 (lit< tt)) in
+      let c10 : getD w 10 0 / 256 ≡ 0 = high-clear 24 8 (getD w 10 0) (u 10) (c 10 (lit< tt)) in
+      let c11 : getD w 11 0 / 256 ≡ 0 = high-clear 24 8 (getD w 11 0) (u 11) (c 11 (lit< tt)) in
+      sym (none-in-the-way lay.Legacy16 w {k = 0} (omega (arith, legacy-way w, c8))))
+      (λ h.
+      let z : inTheWay lay.Legacy16 w ≡ 0 = eqb-true (inTheWay lay.Legacy16 w) 0 (none-in-the-way lay.Legacy16 w refl ∙ h) in
+      let y = sym (legacy-way w) ∙ z in
+      all-clear legacyMasks w width
+      (each-word (λ k. bitAnd (getD w k 0) (getD legacyMasks k 0) ≡ 0)
+      (and-zero-r (getD w 0 0))
+      (and-zero-r (getD w 1 0))
+      (clear-high 7 25 (getD w 2 0) (omega arith))
+      (clear-high 25 7 (getD w 3 0) (omega arith))
+      (clear-high 17 15 (getD w 4 0) (omega arith))
+      (clear-high 15 17 (getD w 5 0) (omega arith))
+      (clear-high 7 25 (getD w 6 0) (omega arith))
+      (clear-high 25 7 (getD w 7 0) (omega arith))
+      (clear-flags (getD w 8 0) (omega arith) (omega arith))
+      (clear-high 24 8 (getD w 9 0) (omega arith))
+      (clear-high 24 8 (getD w 10 0) (omega arith))
+      (clear-high 24 8 (getD w 11 0) (omega arith))
+      (and-zero-r (getD w 12 0))
+      (and-zero-r (getD w 13 0))
+      (and-zero-r (getD w 14 0))
+      (and-zero-r (getD w 15 0))))
+
+  -- clear exactly when it goes inline
+  pub modern-inline : clear modernMasks w width ≡ goesInline lay.Modern12 w
+  modern-inline =
+      same-test (clear modernMasks w width) (goesInline lay.Modern12 w)
+      (λ h.
+      let c = clear-all modernMasks w width h in
+      let c2 : getD w 2 0 / 33554432 ≡ 0 = high-clear 7 25 (getD w 2 0) (u 2) (c 2 (lit< tt)) in
+      let c3 : getD w 3 0 / 32 ≡ 0 = high-clear 27 5 (getD w 3 0) (u 3) (c 3 (lit< tt)) in
+      let c4 : getD w 4 0 / 16384 ≡ 0 = high-clear 18 14 (getD w 4 0) (u 4) (c 4 (lit< tt)) in
+      let c5 : getD w 5 0 / 256 ≡ 0 = high-clear 24 8 (getD w 5 0) (u 5) (c 5 (lit< tt)) in
+      let c6 = whole-clear (getD w 6 0) (u 6) (c 6 (lit< tt)) in
+      let c7 : getD w 7 0 / 256 ≡ 0 = high-clear 24 8 (getD w 7 0) (u 7) (c 7 (lit< tt)) in
+      let c8 = flags-clear (getD w 8 0) (u 8) (c 8 (lit< tt)) in
+      let c9 : getD w 9 0 / 4 ≡ 0 = high-clear 30 2 (getD w 9 0) (u 9) (c 9 (lit< tt)) in
+      let c10 : getD w 10 0 / 32 ≡ 0 = high-clear 27 5 (getD w 10 0) (u 10) (c 10 (lit< tt)) in
+      let c11 : getD w 11 0 / 32 ≡ 0 = high-clear 27 5 (getD w 11 0) (u 11) (c 11 (lit< tt)) in
+      let c12 : getD w 12 0 / 256 ≡ 0 = high-clear 24 8 (getD w 12 0) (u 12) (c 12 (lit< tt)) in
+      let c13 : getD w 13 0 / 64 ≡ 0 = high-clear 26 6 (getD w 13 0) (u 13) (c 13 (lit< tt)) in
+      let c14 : getD w 14 0 / 2 ≡ 0 = high-clear 31 1 (getD w 14 0) (u 14) (c 14 (lit< tt)) in
+      let c15 : getD w 15 0 / 2 ≡ 0 = high-clear 31 1 (getD w 15 0) (u 15) (c 15 (lit< tt)) in
+      sym (none-in-the-way lay.Modern12 w {k = 0} (omega (arith, modern-way w, c8))))
+      (λ h.
+      let z : inTheWay lay.Modern12 w ≡ 0 = eqb-true (inTheWay lay.Modern12 w) 0 (none-in-the-way lay.Modern12 w refl ∙ h) in
+      let y = sym (modern-way w) ∙ z in
+      all-clear modernMasks w width
+      (each-word (λ k. bitAnd (getD w k 0) (getD modernMasks k 0) ≡ 0)
+      (and-zero-r (getD w 0 0))
+      (and-zero-r (getD w 1 0))
+      (clear-high 7 25 (getD w 2 0) (omega arith))
+      (clear-high 27 5 (getD w 3 0) (omega arith))
+      (clear-high 18 14 (getD w 4 0) (omega arith))
+      (clear-high 24 8 (getD w 5 0) (omega arith))
+      (clear-whole (getD w 6 0) (omega arith))
+      (clear-high 24 8 (getD w 7 0) (omega arith))
+      (clear-flags (getD w 8 0) (omega arith) (omega arith))
+      (clear-high 30 2 (getD w 9 0) (omega arith))
+      (clear-high 27 5 (getD w 10 0) (omega arith))
+      (clear-high 27 5 (getD w 11 0) (omega arith))
+      (clear-high 24 8 (getD w 12 0) (omega arith))
+      (clear-high 26 6 (getD w 13 0) (omega arith))
+      (clear-high 31 1 (getD w 14 0) (omega arith))
+      (clear-high 31 1 (getD w 15 0) (omega arith))))
+
+  -- the four zeros
+  zeros-clear : clear legacyZeros w width ≡ true → (getD w 12 0 ≡ 0) × (getD w 13 0 ≡ 0) × (getD w 14 0 ≡ 0) × (getD w 15 0 ≡ 0)
+  zeros-clear h =
+      let c = clear-all legacyZeros w width h in
+      (whole-clear (getD w 12 0) (u 12) (c 12 (lit< tt)), whole-clear (getD w 13 0) (u 13) (c 13 (lit< tt)), whole-clear (getD w 14 0) (u 14) (c 14 (lit< tt)), whole-clear (getD w 15 0) (u 15) (c 15 (lit< tt)))
+
+  -- and of a right row they are clear
+  clear-zeros : (i : ℕ) → amiss lay.Legacy16 i w ≡ 0 → clear legacyZeros w width ≡ true
+  clear-zeros i z =
+      all-clear legacyZeros w width
+      (each-word (λ k. bitAnd (getD w k 0) (getD legacyZeros k 0) ≡ 0)
+      (and-zero-r (getD w 0 0))
+      (and-zero-r (getD w 1 0))
+      (and-zero-r (getD w 2 0))
+      (and-zero-r (getD w 3 0))
+      (and-zero-r (getD w 4 0))
+      (and-zero-r (getD w 5 0))
+      (and-zero-r (getD w 6 0))
+      (and-zero-r (getD w 7 0))
+      (and-zero-r (getD w 8 0))
+      (and-zero-r (getD w 9 0))
+      (and-zero-r (getD w 10 0))
+      (and-zero-r (getD w 11 0))
+      (clear-whole (getD w 12 0) (omega arith))
+      (clear-whole (getD w 13 0) (omega arith))
+      (clear-whole (getD w 14 0) (omega arith))
+      (clear-whole (getD w 15 0) (omega arith)))
+
+-- ---- the answer of the short way
+
+either : {A : Type 0} {b : Bool} → b ≡ true → b ≡ false → A
+either p q = let z : _≡_ {A = ℕ} 0 1 = cc in absurd (omega arith)
+
+-- a row that is not right
+not-right : (layout : Layout) (i : ℕ) (w : List ℕ) → false ≡ rightRow layout i w → Plain layout i w false
+not-right layout i w e = record { right = λ h. either h refl; inline = λ h. either h refl; large = λ h g. either g (sym e) }
+
+module _ (rows : List ℕ) (i : ℕ) (u : (k : ℕ) → getD rows k 0 < 2 ^ 32) where
+  abbrev row : List ℕ
+  row = rowAt width rows i
+
+  past : (k : ℕ) → length row ≤ k → getD row k 0 < 2 ^ 32
+  past k h = rw (List·getD-eq-default row 0 h) (lit< tt)
+
+  small-by : (k : ℕ) (b : Bool) → ltb k width ≡ b → getD row k 0 < 2 ^ 32
+  unfolding rowAt
+  small-by k true e = rw (row-word rows i k (ltb-true k width e)) (u (i * width + k))
+  small-by k false e = let h = ltb-false k width e in past k (simp length-take (omega arith))
+
+  small : (k : ℕ) → getD row k 0 < 2 ^ 32
+  small k = small-by k (ltb k width) refl
+
+  first : getD row 0 0 ≡ getD rows (i * width) 0
+  first = rw (add-zero (i * width)) at (row-word rows i 0 (lit< tt))
+
+  pub legacy-goes : clear legacyMasks row width ≡ goesInline lay.Legacy16 row
+  legacy-goes = legacy-inline row small
+
+  pub modern-goes : clear modernMasks row width ≡ goesInline lay.Modern12 row
+  modern-goes = modern-inline row small
+
+  -- by its first two words
+  pub other-layout : (layout : Layout) → (getD rows (i * width) 0 ≡ numberIn layout → ⊥) → Plain layout i row false
+  other-layout layout n = not-right layout i row (wrong-layout layout i row (λ e. n (sym first ∙ e)))
+
+  module _ (layout : Layout) (o : getD rows (i * width) 0 ≡ numberIn layout) where
+    pub other-id : (getD rows (i * width + 1) 0 ≡ i → ⊥) → Plain layout i row false
+    other-id n = not-right layout i row (wrong-id layout i row (first ∙ o) (λ e. n (sym (row-word rows i 1 (lit< tt)) ∙ e)))
+
+    module _ (d : getD rows (i * width + 1) 0 ≡ i) where
+      rights : {k : ℕ} → k ≡ amiss layout i row → eqb k 0 ≡ rightRow layout i row
+      rights e = none-amiss layout i row (first ∙ o) (row-word rows i 1 (lit< tt) ∙ d) e
+
+      -- by the rest: it goes inline exactly when it is plain, and then nothing is amiss
+      plain-by : {r : Bool} → r ≡ goesInline layout row → (goesInline layout row ≡ true → 0 ≡ amiss layout i row) → Plain layout i row r
+      plain-by e f =
+          record {
+            right = λ h. sym (rights (f (sym e ∙ h)));
+            inline = λ h. sym e ∙ h;
+            large = λ h g. sym e ∙ h;
+          }
+
+  module _ (o : getD rows (i * width) 0 ≡ 0) (d : getD rows (i * width + 1) 0 ≡ i) where
+    none-there : {k : ℕ} → eqb k 0 ≡ true → k ≡ 0
+    none-there {k} e = eqb-true k 0 e
+
+    pub legacy-zeros : clear legacyZeros row width ≡ false → Plain lay.Legacy16 i row false
+    legacy-zeros c =
+        record {
+          right = λ h. either h refl;
+          inline = λ h. either h refl;
+          large = λ h g. either (clear-zeros row small i (none-there (rights lay.Legacy16 o d refl ∙ g))) c;
+        }
+
+    pub legacy-plain : {r : Bool} → clear legacyZeros row width ≡ true → r ≡ clear legacyMasks row width → Plain lay.Legacy16 i row r
+    legacy-plain c e =
+        plain-by lay.Legacy16 o d (e ∙ legacy-goes)
+        (λ g.
+        let z : inTheWay lay.Legacy16 row ≡ 0 = none-there (none-in-the-way lay.Legacy16 row refl ∙ g) in
+        let y = sym (legacy-way row) ∙ z in
+        let t = zeros-clear row small c in
+        legacy-amiss i row (omega (arith, t)))
+
+  module _ (o : getD rows (i * width) 0 ≡ 1) (d : getD rows (i * width + 1) 0 ≡ i) where
+    pub modern-plain : {r : Bool} → r ≡ clear modernMasks row width → Plain lay.Modern12 i row r
+    modern-plain e =
+        plain-by lay.Modern12 o d (e ∙ modern-goes)
+        (λ g.
+        let z : inTheWay lay.Modern12 row ≡ 0 = eqb-true (inTheWay lay.Modern12 row) 0 (none-in-the-way lay.Modern12 row refl ∙ g) in
+        let y = sym (modern-way row) ∙ z in
+        modern-amiss i row (omega arith))

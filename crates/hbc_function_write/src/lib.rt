@@ -1,0 +1,459 @@
+// The table of functions, written from lent rows into a lent buffer: checked first, written after.
+ghost use mathlib.Core.Path.{_≡_};
+ghost use mathlib.Core.Bool.{false};
+ghost use Prim.Native.Nat.{_+_, _*_, _^_, _≤_, _<_, min};
+ghost use lib.ListN.{length};
+ghost use Rattle.hbc_io.specs.Answer.{gives};
+ghost use Rattle.hbc_rows.specs.Rows.{rowAt};
+ghost use Rattle.hbc_function_record.specs.Record.{sizeOf, largeOf};
+ghost use Rattle.hbc_function_record.specs.Row.{width};
+ghost use Rattle.hbc_function_record.specs.declared.Layout.the-variants.{Legacy16, Modern12};
+ghost use Rattle.hbc_function_bytes.specs.Bytes.{goesInline};
+ghost use Rattle.hbc_function_write.specs.Write.{saysWrote, rounded, endAt, putHeaders, saysEnd, rightRows, WriteFunctions};
+ghost use Rattle.hbc_function_write.specs.Private.{Room, Ends, Ended, clear, Plain, far, largePlan, lookedAt, PutRow};
+use crate::put::put_header;
+use crate::put::put_large;
+use hbc_function_bytes::inline_words;
+use hbc_function_bytes::pointer_words;
+use hbc_function_bytes::row_is_right;
+use hbc_function_record::Layout;
+use hbc_function_record::ROW_INFO_OFFSET;
+use hbc_function_record::WIDTH;
+use hbc_function_record::header_size;
+use hbc_function_record::large_size;
+use hbc_io::LIMIT;
+use hbc_io::Refusal;
+use hbc_io::refuse;
+
+mod put;
+
+// The end of what was written, or the refusal.
+pub enum Wrote {
+    To(usize),
+    Refused(Refusal),
+}
+
+// What the check knows after some rows: from where on large headers go, the end of what is written, and the first row that is to be refused 14.
+struct Plan {
+    free: usize,
+    end: usize,
+    late: u32,
+}
+
+// A row that is not plain: what is known with it, or that it is wrong.
+enum Looked {
+    Next(Plan),
+    Wrong,
+}
+
+// No row: a row's number is below a count.
+const NONE: u32 = 0xFFFF_FFFF;
+
+// A place that is past every buffer, every table and every info_offset: one further off gives the same answer.
+const FAR: usize = 0x100_0000_0000;
+
+// A place, or the nearest that is far enough.
+fn nearest(large: usize) -> usize
+    ensures { λ r. ⌜ r ≡ min large far ⌝ }
+{
+    if FAR < large {
+        return FAR;
+    }
+    large
+}
+
+// The next multiple of 4.
+fn rounded_up(n: usize) -> usize
+    requires { ⌜ n + 31 < 2 ^ 64 ⌝ }
+    ensures { λ r. ⌜ r ≡ rounded n ⌝ }
+{
+    (n + 3) / 4 * 4
+}
+
+// Row `id` of the lent words.
+fn row_at(rows: &[u32], id: u32) -> [u32; WIDTH]
+    requires { ⌜ id * width + width ≤ length (now rows) ⌝ }
+    ensures { λ w. ⌜ w ≡ rowAt width (now (rows .entry)) id ⌝ }
+{
+    let a = (id as usize) * WIDTH;
+    [
+        rows[a],
+        rows[a + 1],
+        rows[a + 2],
+        rows[a + 3],
+        rows[a + 4],
+        rows[a + 5],
+        rows[a + 6],
+        rows[a + 7],
+        rows[a + 8],
+        rows[a + 9],
+        rows[a + 10],
+        rows[a + 11],
+        rows[a + 12],
+        rows[a + 13],
+        rows[a + 14],
+        rows[a + 15],
+    ]
+}
+
+// Of the flags: all above a byte, and the overflow bit.
+const FLAGS_BITS: u32 = 0xFFFF_FF20;
+
+// The bits of each word that are clear in a row that goes inline: those above a field's width, the overflow bit, and in modern all of info_offset.
+const LEGACY_BITS: [u32; WIDTH] = [
+    0,
+    0,
+    0xFE00_0000,
+    0xFFFF_FF80,
+    0xFFFF_8000,
+    0xFFFE_0000,
+    0xFE00_0000,
+    0xFFFF_FF80,
+    FLAGS_BITS,
+    0xFFFF_FF00,
+    0xFFFF_FF00,
+    0xFFFF_FF00,
+    0,
+    0,
+    0,
+    0,
+];
+
+const MODERN_BITS: [u32; WIDTH] = [
+    0,
+    0,
+    0xFE00_0000,
+    0xFFFF_FFE0,
+    0xFFFF_C000,
+    0xFFFF_FF00,
+    0xFFFF_FFFF,
+    0xFFFF_FF00,
+    FLAGS_BITS,
+    0xFFFF_FFFC,
+    0xFFFF_FFE0,
+    0xFFFF_FFE0,
+    0xFFFF_FF00,
+    0xFFFF_FFC0,
+    0xFFFF_FFFE,
+    0xFFFF_FFFE,
+];
+
+// Those of a legacy row's four zeros.
+const LEGACY_ZEROS: [u32; WIDTH] = [
+    0,
+    0,
+    0,
+    0,
+    0,
+    0,
+    0,
+    0,
+    0,
+    0,
+    0,
+    0,
+    0xFFFF_FFFF,
+    0xFFFF_FFFF,
+    0xFFFF_FFFF,
+    0xFFFF_FFFF,
+];
+
+// Whether none of these bits is set in row `id`: or-ed and asked once, so that there is one branch.
+fn is_clear(rows: &[u32], id: u32, masks: [u32; WIDTH]) -> bool
+    requires { ⌜ id * width + width ≤ length (now rows) ⌝ }
+    ensures { λ r. ⌜ r ≡ clear masks (rowAt width (now (rows .entry)) id) width ⌝ }
+{
+    let at = (id as usize) * WIDTH;
+    let mut set: u32 = 0;
+    let mut k: usize = 0;
+    while k < WIDTH {
+        set = set | (rows[at + k] & masks[k]);
+        k += 1;
+    }
+    set == 0
+}
+
+// Whether row `id` is right and goes inline, as most do: a call, and a loop, for each layout, so that no turn asks which it is.
+fn is_plain_legacy(rows: &[u32], id: u32) -> bool
+    requires { ⌜ id * width + width ≤ length (now rows) ⌝ }
+    ensures { λ r. ⌜ Plain Legacy16 id (rowAt width (now (rows .entry)) id) r ⌝ }
+{
+    let at = (id as usize) * WIDTH;
+    if rows[at] != 0 {
+        return false;
+    }
+    if rows[at + 1] != id {
+        return false;
+    }
+    if !is_clear(rows, id, LEGACY_ZEROS) {
+        return false;
+    }
+    is_clear(rows, id, LEGACY_BITS)
+}
+
+fn is_plain_modern(rows: &[u32], id: u32) -> bool
+    requires { ⌜ id * width + width ≤ length (now rows) ⌝ }
+    ensures { λ r. ⌜ Plain Modern12 id (rowAt width (now (rows .entry)) id) r ⌝ }
+{
+    let at = (id as usize) * WIDTH;
+    if rows[at] != 1 {
+        return false;
+    }
+    if rows[at + 1] != id {
+        return false;
+    }
+    is_clear(rows, id, MODERN_BITS)
+}
+
+// Whether a large row says where its large header ends.
+fn says_end(row: [u32; WIDTH], layout: Layout, end: usize) -> bool
+    ensures { λ b. ⌜ b ≡ saysEnd layout row end ⌝ }
+{
+    match layout {
+        Layout::Legacy16 => true,
+        Layout::Modern12 => row[ROW_INFO_OFFSET] as usize == end,
+    }
+}
+
+// The plan with one large row more.
+fn with_large(plan: Plan, row: [u32; WIDTH], layout: Layout, id: u32) -> Plan
+    requires { ⌜ plan .free ≤ 2 ^ 60 ⌝ }
+    ensures { λ p. ⌜ p ≡ largePlan layout row id plan ⌝ }
+{
+    let end = rounded_up(plan.free) + large_size(layout);
+    if plan.late < NONE {
+        return Plan {
+            free: end,
+            end,
+            late: plan.late,
+        };
+    }
+    if says_end(row, layout, rounded_up(end)) {
+        return Plan {
+            free: end,
+            end,
+            late: NONE,
+        };
+    }
+    Plan {
+        free: end,
+        end,
+        late: id,
+    }
+}
+
+// The plan with row `id`, which does not go inline if it is right.
+fn look_at(rows: &[u32], layout: Layout, id: u32, plan: Plan) -> Looked
+    requires { ⌜ (id * width + width ≤ length (now rows)) × (plan .free ≤ 2 ^ 60) ⌝ }
+    ensures { λ r. ⌜ r ≡ lookedAt layout (rowAt width (now (rows .entry)) id) id plan ⌝ }
+{
+    let row = row_at(rows, id);
+    if !row_is_right(row, layout, id) {
+        return Looked::Wrong;
+    }
+    Looked::Next(with_large(plan, row, layout, id))
+}
+
+// The end of what is written, or the first row that is refused 13, or else 14: one pass, since a row that is refused 13 is so at once, and the first that
+// is refused 14 only when all were looked at.
+fn check_legacy(rows: &[u32], count: u32, large: usize, table: usize) -> Wrote
+    requires { ⌜ (count * width ≤ length (now rows)) × (large ≤ far) ⌝ }
+    ensures { λ r. ⌜ saysWrote r
+        ≡ rightRows (now (rows .entry)) Legacy16 count large (gives (endAt Legacy16 (rowAt width (now (rows .entry))) large table count)) ⌝ }
+{
+    let mut plan = Plan {
+        free: large,
+        end: table,
+        late: NONE,
+    };
+    let mut id: u32 = 0;
+    while id < count {
+        if is_plain_legacy(rows, id) {
+            id += 1;
+        } else {
+            match look_at(rows, Layout::Legacy16, id, plan) {
+                Looked::Next(p) => {
+                    plan = p;
+                    id += 1;
+                }
+                Looked::Wrong => return Wrote::Refused(refuse(13, id)),
+            }
+        }
+    }
+    if plan.late < NONE {
+        return Wrote::Refused(refuse(14, plan.late));
+    }
+    Wrote::To(plan.end)
+}
+
+fn check_modern(rows: &[u32], count: u32, large: usize, table: usize) -> Wrote
+    requires { ⌜ (count * width ≤ length (now rows)) × (large ≤ far) ⌝ }
+    ensures { λ r. ⌜ saysWrote r
+        ≡ rightRows (now (rows .entry)) Modern12 count large (gives (endAt Modern12 (rowAt width (now (rows .entry))) large table count)) ⌝ }
+{
+    let mut plan = Plan {
+        free: large,
+        end: table,
+        late: NONE,
+    };
+    let mut id: u32 = 0;
+    while id < count {
+        if is_plain_modern(rows, id) {
+            id += 1;
+        } else {
+            match look_at(rows, Layout::Modern12, id, plan) {
+                Looked::Next(p) => {
+                    plan = p;
+                    id += 1;
+                }
+                Looked::Wrong => return Wrote::Refused(refuse(13, id)),
+            }
+        }
+    }
+    if plan.late < NONE {
+        return Wrote::Refused(refuse(14, plan.late));
+    }
+    Wrote::To(plan.end)
+}
+
+fn check_rows(rows: &[u32], layout: Layout, count: u32, large: usize, table: usize) -> Wrote
+    requires { ⌜ (count * width ≤ length (now rows)) × (large ≤ far) ⌝ }
+    ensures { λ r. ⌜ saysWrote r
+        ≡ rightRows (now (rows .entry)) layout count large (gives (endAt layout (rowAt width (now (rows .entry))) large table count)) ⌝ }
+{
+    match layout {
+        Layout::Legacy16 => check_legacy(rows, count, large, table),
+        Layout::Modern12 => check_modern(rows, count, large, table),
+    }
+}
+
+// The headers of row `id`, the inline one at `at`, and from where on the next large one goes.
+fn put_legacy_row(buffer: &mut [u8], rows: &[u32], id: u32, at: usize, free: usize) -> usize
+    requires { ⌜ id * width + width ≤ length (now rows) ⌝ }
+    requires { ⌜ at + sizeOf Legacy16 ≤ length (now buffer) ⌝ }
+    requires { ⌜ (goesInline Legacy16 (rowAt width (now rows) id) ≡ false → rounded free + largeOf Legacy16 ≤ length (now buffer)) ⌝ }
+    ensures { λ r. ⌜ PutRow Legacy16 at free (rowAt width (now (rows .entry)) id) (now (buffer .entry)) r (now (buffer .exit)) ⌝ }
+{
+    if is_clear(rows, id, LEGACY_BITS) {
+        put_header(
+            buffer,
+            Layout::Legacy16,
+            at,
+            inline_words(row_at(rows, id), Layout::Legacy16),
+        );
+        return free;
+    }
+    let place = rounded_up(free);
+    put_header(
+        buffer,
+        Layout::Legacy16,
+        at,
+        pointer_words(place, Layout::Legacy16),
+    );
+    put_large(buffer, Layout::Legacy16, place, row_at(rows, id));
+    place + large_size(Layout::Legacy16)
+}
+
+// In modern the info_offset tells which, since no row was refused 14.
+fn put_modern_row(buffer: &mut [u8], rows: &[u32], id: u32, at: usize, free: usize) -> usize
+    requires { ⌜ id * width + width ≤ length (now rows) ⌝ }
+    requires { ⌜ at + sizeOf Modern12 ≤ length (now buffer) ⌝ }
+    requires { ⌜ (goesInline Modern12 (rowAt width (now rows) id) ≡ false → rounded free + largeOf Modern12 ≤ length (now buffer)) ⌝ }
+    requires { ⌜ Ended (rowAt width (now rows) id) ⌝ }
+    ensures { λ r. ⌜ PutRow Modern12 at free (rowAt width (now (rows .entry)) id) (now (buffer .entry)) r (now (buffer .exit)) ⌝ }
+{
+    if rows[(id as usize) * WIDTH + ROW_INFO_OFFSET] == 0 {
+        put_header(
+            buffer,
+            Layout::Modern12,
+            at,
+            inline_words(row_at(rows, id), Layout::Modern12),
+        );
+        return free;
+    }
+    let place = rounded_up(free);
+    put_header(
+        buffer,
+        Layout::Modern12,
+        at,
+        pointer_words(place, Layout::Modern12),
+    );
+    put_large(buffer, Layout::Modern12, place, row_at(rows, id));
+    place + large_size(Layout::Modern12)
+}
+
+// All rows' headers, where there is room for them.
+fn put_legacy_rows(buffer: &mut [u8], rows: &[u32], start: usize, count: u32, large: usize)
+    requires { ⌜ count * width ≤ length (now rows) ⌝ }
+    requires { ⌜ Room Legacy16 (rowAt width (now rows)) start large count (length (now buffer)) ⌝ }
+    ensures { λ _. ⌜ now (buffer .exit) ≡ putHeaders Legacy16 (rowAt width (now (rows .entry))) start large count (now (buffer .entry)) ⌝ }
+{
+    let mut free = large;
+    let mut id: u32 = 0;
+    while id < count {
+        free = put_legacy_row(buffer, rows, id, start + (id as usize) * 16, free);
+        id += 1;
+    }
+}
+
+fn put_modern_rows(buffer: &mut [u8], rows: &[u32], start: usize, count: u32, large: usize)
+    requires { ⌜ count * width ≤ length (now rows) ⌝ }
+    requires { ⌜ Room Modern12 (rowAt width (now rows)) start large count (length (now buffer)) ⌝ }
+    requires { ⌜ Ends Modern12 (rowAt width (now rows)) large count ⌝ }
+    ensures { λ _. ⌜ now (buffer .exit) ≡ putHeaders Modern12 (rowAt width (now (rows .entry))) start large count (now (buffer .entry)) ⌝ }
+{
+    let mut free = large;
+    let mut id: u32 = 0;
+    while id < count {
+        free = put_modern_row(buffer, rows, id, start + (id as usize) * 12, free);
+        id += 1;
+    }
+}
+
+fn put_rows(buffer: &mut [u8], rows: &[u32], layout: Layout, start: usize, count: u32, large: usize)
+    requires { ⌜ count * width ≤ length (now rows) ⌝ }
+    requires { ⌜ Room layout (rowAt width (now rows)) start large count (length (now buffer)) ⌝ }
+    requires { ⌜ Ends layout (rowAt width (now rows)) large count ⌝ }
+    ensures { λ _. ⌜ now (buffer .exit) ≡ putHeaders layout (rowAt width (now (rows .entry))) start large count (now (buffer .entry)) ⌝ }
+{
+    match layout {
+        Layout::Legacy16 => put_legacy_rows(buffer, rows, start, count, large),
+        Layout::Modern12 => put_modern_rows(buffer, rows, start, count, large),
+    }
+}
+
+// Writes the headers of `count` rows into the buffer, the table at `start` and large headers from `large` on. A refusal leaves every byte as it was.
+pub fn write_functions(
+    rows: &[u32],
+    layout: Layout,
+    start: usize,
+    count: u32,
+    large: usize,
+    buffer: &mut [u8],
+) -> Wrote
+    ensures { λ r. ⌜ WriteFunctions (now (rows .entry)) layout start count large (now (buffer .entry)) r (now (buffer .exit)) ⌝ }
+{
+    if LIMIT < buffer.len() {
+        return Wrote::Refused(refuse(1, 0));
+    }
+    if buffer.len() < start {
+        return Wrote::Refused(refuse(2, 0));
+    }
+    if rows.len() < (count as usize) * WIDTH {
+        return Wrote::Refused(refuse(11, 0));
+    }
+    let table = start + (count as usize) * header_size(layout);
+    match check_rows(rows, layout, count, nearest(large), table) {
+        Wrote::Refused(r) => Wrote::Refused(r),
+        Wrote::To(end) => {
+            if large < table {
+                return Wrote::Refused(refuse(15, 0));
+            }
+            if buffer.len() < end {
+                return Wrote::Refused(refuse(4, 0));
+            }
+            put_rows(buffer, rows, layout, start, count, large);
+            Wrote::To(end)
+        }
+    }
+}
