@@ -1,3 +1,4 @@
 pub mod Cases
 pub mod Unique
+pub mod Records
 pub mod Proved

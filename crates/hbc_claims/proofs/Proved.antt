@@ -74,6 +74,7 @@ use Rattle.hbc_claims_c.proofs.Unique as u-c
 use Rattle.hbc_claims.specs.Theorems.{Unique, Theorems, AsFresh, CountedLeft, CursorLeft, DebugRead, Edited, Exact, ExportedLeft, HandlersRead, Meets, ObjectRead, Packed, Reader, Reads, Refreshes, SectionsRead, SeriesRead, StringsRead, TableRead, TablesLeft, Whole, Writes}
 use Rattle.hbc_claims.proofs.Cases.{hold}
 use Rattle.hbc_claims.proofs.Unique as u-listing
+use Rattle.hbc_claims.proofs.Records as u-records
 
 unique : Unique
 unique = record {
@@ -85,6 +86,7 @@ unique = record {
   handlers = u-parsing.unique;
   debug = u-debug.unique;
   listing = u-listing.unique;
+  records = u-records.unique;
   exported = u-c.unique;
 }
 

@@ -118,6 +118,7 @@ use Rattle.hbc_claims_debug.specs.Unique as u-debug
 use Rattle.hbc_claims_c.specs.Unique as u-c
 use Rattle.hbc_claims.specs.Cases.{cases}
 use Rattle.hbc_claims.specs.Unique as u-listing
+use Rattle.hbc_claims.specs.Records as u-records
 
 -- ==== 1. The worked cases: P1 to P10, and W1 to W5, of docs/FORMAT.md, section 10.1, each stated in Cases, one list (`worked`)
 -- ==== 2. Uniqueness (`unique`) of every public call, by layers, and of every exported one: two outcomes that both meet its contract, as the checker has it,
@@ -131,6 +132,7 @@ pub record Unique : Type 0 where
   pub handlers : u-parsing.Unique
   pub debug : u-debug.Unique
   pub listing : u-listing.Unique
+  pub records : u-records.Unique
   pub exported : u-c.Unique
 
 -- a reader's calls are proved by hand, and the checker makes no plain reading of their contracts: each clause, as the checker has it, is the one fact of

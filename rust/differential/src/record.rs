@@ -1,4 +1,4 @@
-//! Recorded samples, as the program `replay` reads them: docs/RECORDS.md has their form.
+//! Recorded samples, as the programs read them that replay them: docs/RECORDS.md has their form.
 
 use harness::count;
 
@@ -8,7 +8,7 @@ pub const FILL: u32 = 0xA5A5_A5A5;
 pub const FILL_BYTE: u8 = 0xA5;
 const FILL_LONG: u64 = 0xA5A5_A5A5_A5A5_A5A5;
 
-/// The bytes for which the program has room.
+/// The bytes for which each program has room.
 pub const MOST_BYTES: usize = 500_000;
 
 /// The calls, by their numbers in a record; those of the cursor layer are 1 to 14, in the order of `io::case::OPS`.

@@ -17,7 +17,7 @@ const USAGE: &str = "usage: differential [--seconds N] [--seed S] [--full] [LAYE
 Compares every layer, or those named. Fixed inputs are always compared whole; random ones until N seconds have
 passed in all (default 20). --full adds inputs that need 8 GB of memory and many minutes. --hostile compares inputs
 that are made to take long instead, up to 2^30 bytes, and judges the time and memory of each call. --record writes a sample
-of the Rust's answers, as the program replay reads it. --replay compares one input, in the words that a difference
+of the Rust's answers, as the programs that replay it read it. --replay compares one input, in the words that a difference
 prints.";
 
 pub struct Layer {
@@ -216,7 +216,7 @@ fn write(layers: &[&Layer], seed: u64, file: &str) -> ExitCode {
             println!("{line}");
         }
     }
-    assert!(bytes.len() <= record::MOST_BYTES, "{} bytes are too many for replay", bytes.len());
+    assert!(bytes.len() <= record::MOST_BYTES, "{} bytes are too many for a program that replays them", bytes.len());
     match std::fs::write(file, &bytes) {
         Ok(()) => {
             println!("{} bytes written to {file}", count(bytes.len() as u64));

@@ -1,0 +1,26 @@
+use Rattle.hbc_io.proofs.Reading.{found}
+use Rattle.hbc_io.specs.Answers.{saysSpan}
+use Rattle.hbc_record.proofs.Recorded.{past-got, past-refused}
+use borrow.Author.Needs.{needs}
+use Rattle.hbc_record.proofs.past.Statement.{statement}
+use Rattle.hbc_record.proofs.past.Tie as tie
+
+read-length-prefixed-string-requires : tie.Need-read-length-prefixed-string-requires
+read-length-prefixed-string-requires c κs = search needs
+
+enum-known-c : tie.Need-enum-known-c
+enum-known-c c = search needs
+
+enum-told : tie.Need-enum-told
+enum-told c = search needs
+
+returns : tie.Need-returns
+returns c = past-got _ _ (found saysSpan (c .before .before .before .read-length-prefixed-string .ensures) (c .before .c .given .1))
+
+returns-2 : tie.Need-returns-2
+returns-2 c = past-refused _ _ (found saysSpan (c .before .before .read-length-prefixed-string .ensures) (c .enum-told .given .1))
+
+pub past-spec : {M : Type 1} → statement M
+past-spec =
+    tie.close
+    (tie.spec read-length-prefixed-string-requires enum-known-c enum-told returns returns-2)

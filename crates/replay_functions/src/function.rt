@@ -1,0 +1,74 @@
+// Function tables. Asked: start, both ends of the span, words lent; layout, count or number. The answer: code, 0.
+use hbc_function_header::Function;
+use hbc_function_record::Layout;
+use hbc_function_record::WIDTH;
+use hbc_io::Span;
+use hbc_record::Asked;
+use hbc_record::FILL;
+use hbc_record::FILL_BYTE;
+use hbc_record::NONE;
+use hbc_record::answers;
+use hbc_record::bytes_are;
+use hbc_record::given;
+use hbc_record::leaves;
+use hbc_record::lent;
+use hbc_record::lent_bytes;
+
+pub(crate) fn read_functions(record: &[u8], s: &[u8], n: Asked) -> bool {
+    let mut table = [FILL; 256];
+    let code = hbc_c_function::read_functions(s, n.p, n.a, n.q, lent(&mut table, n.d));
+    leaves(record, code, 0, &table)
+}
+
+pub(crate) fn refresh_functions(record: &[u8], s: &[u8], n: Asked) -> bool {
+    let mut table = [FILL; 256];
+    let t = lent(&mut table, n.d);
+    let code = hbc_c_function::refresh_functions(s, n.p, n.a, n.q, n.b, n.c, t);
+    leaves(record, code, 0, &table)
+}
+
+pub(crate) fn function_meets(record: &[u8], s: &[u8], n: Asked) -> bool {
+    let code = hbc_c_function::function_meets(s, n.p, n.a, n.q, n.b, n.c);
+    answers(record, code, 0, NONE, NONE, NONE)
+}
+
+// The places where they are told: code, header, large header.
+pub(crate) fn function_ground(record: &[u8], s: &[u8], n: Asked) -> bool {
+    let mut header: usize = 0;
+    let mut large: usize = 0;
+    let code = hbc_c_function::function_ground(s, n.p, n.a, n.q, &mut header, &mut large);
+    answers(record, code, header, large, NONE, NONE)
+}
+
+// Asked: start, the place for large headers, 0, bytes lent; layout, count. The input is the rows' words.
+pub(crate) fn write_functions(record: &[u8], n: Asked) -> bool {
+    let mut table = [0u32; 256];
+    let rows = given(record, 1, &mut table);
+    let mut buffer = [FILL_BYTE; 256];
+    let b = lent_bytes(&mut buffer, n.d);
+    let code = hbc_c_function::write_functions(rows, n.p, n.a, n.q, n.b, b);
+    let all = Span { start: 0, len: n.d };
+    answers(record, code, 0, NONE, NONE, NONE) & bytes_are(record, 3, hbc_io::part(&buffer, all))
+}
+
+fn layout_of(n: u32) -> Layout {
+    if n == 0 {
+        Layout::Legacy16
+    } else {
+        Layout::Modern12
+    }
+}
+
+// The record itself, not the row that the boundary copies.
+pub(crate) fn read_function(record: &[u8], s: &[u8], n: Asked) -> bool {
+    match hbc_function_header::read_function(s, layout_of(n.p), n.a, n.q) {
+        Function::Read(r) => {
+            let row = hbc_function_record::row_words(r);
+            leaves(record, 1, 0, &row)
+        }
+        Function::Refused(r) => {
+            let row = [FILL; WIDTH];
+            leaves(record, hbc_c_code::code(r), 0, &row)
+        }
+    }
+}
