@@ -1,6 +1,6 @@
-/* What include/hbc.h says besides its prototypes, as a caller meets it: names, what a refused call leaves, what a refused
- * refresh asks for, what stands for no large header, what is written and what is not. C99 and C++. Prints nothing; at the
- * first test that fails its line, and then ends with status 1. */
+/* What include/hbc.h says besides its prototypes, as a caller meets it: names, what a refused call leaves, the two modes
+ * of strings, what a refused refresh asks for, what stands for no large header, what is written and what is not. C99 and
+ * C++. Prints nothing; at the first test that fails its line, and then ends with status 1. */
 #include <stdio.h>
 #include <string.h>
 
@@ -79,6 +79,29 @@ static int left(void)
     CHECK(hbc_trailing_sections(bytes, 3, 0, 0, 0, 0, false, 0, rows, sizeof rows / sizeof *rows) == HBC_SECTIONS);
     CHECK(rows[HBC_FUNCTION_SOURCES * HBC_SECTION_WORDS + HBC_SECTION_ABSENT] == 1);
     CHECK(rows[HBC_BYTECODE * HBC_SECTION_WORDS + HBC_SECTION_SIZE] == 3);
+    return 0;
+}
+
+/* Pair 1 taken twice, an empty run of identifiers before a string: in order, and in Hermes mode. A field past the pairs
+ * lent, of which the last has half its words, is refused, and no row is written. */
+static int modes(void)
+{
+    static const uint8_t bytes[] = {'h', 'i', 'y', 'o', 'u'};
+    static const uint32_t small[] = {1u << 1 | 255u << 24, 1u << 1 | 255u << 24};
+    static const uint32_t kinds[] = {1, 1u << 31, 1}, pairs[] = {0, 2, 2, 3};
+    const uint32_t in_order[] = {0, 2, 0, 0, 2, 3, 0, HBC_MARK_IDENTIFIER}, hermes[] = {2, 3, 0, 0, 2, 3, 0, 0};
+    uint32_t rows[2 * HBC_STRING_WORDS];
+    uint64_t code;
+    CHECK(hbc_decode_strings(2, kinds, 3, small, 2, pairs, 4, bytes, 5, rows, 8) == 2);
+    CHECK(memcmp(rows, in_order, sizeof rows) == 0);
+    CHECK(hbc_decode_strings_hermes(2, kinds, 3, small, 2, pairs, 4, bytes, 5, rows, 8) == 2);
+    CHECK(memcmp(rows, hermes, sizeof rows) == 0);
+    code = hbc_decode_strings_hermes(9, kinds, 3, small, 2, pairs, 3, bytes, 5, rows, 8);
+    CHECK(is(code, "NO_OVERFLOW_PAIR") && HBC_PLACE(code) == 0);
+    CHECK(is(hbc_decode_strings_hermes(2, kinds, 3, small, 2, pairs, 3, bytes, 5, rows, 7), "TOO_FEW_ROWS"));
+    code = hbc_decode_strings_hermes(2, kinds, 3, small, 2, pairs, 3, bytes, (size_t)HBC_LIMIT + 1, rows, 7);
+    CHECK(is(code, "TOO_LONG"));
+    CHECK(memcmp(rows, hermes, sizeof rows) == 0);
     return 0;
 }
 
@@ -192,4 +215,4 @@ static int version(void)
     return 0;
 }
 
-int main(void) { return refusals() || left() || refresh() || ground() || written() || version(); }
+int main(void) { return refusals() || left() || modes() || refresh() || ground() || written() || version(); }

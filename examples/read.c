@@ -64,9 +64,20 @@ static int functions(void)
     return !(refused("read of 62 bytes", code) && HBC_NUMBER(code) == HBC_REFUSED_CUT);
 }
 
+static const uint8_t storage[] = {'h', 'i', 'y', 'o', 'u'};
+
+static void print_strings(const uint32_t *rows, size_t count)
+{
+    for (size_t i = 0; i < count; i++) {
+        size_t start, len;
+        hbc_string_bytes(storage, sizeof storage, rows, count * HBC_STRING_WORDS, i, &start, &len);
+        printf("string %zu: %.*s%s\n", i, (int)len, (const char *)storage + start,
+               rows[i * HBC_STRING_WORDS + HBC_STRING_MARKS] & HBC_MARK_IDENTIFIER ? ", an identifier" : "");
+    }
+}
+
 static int strings(void)
 {
-    static const uint8_t storage[] = {'h', 'i', 'y', 'o', 'u'};
     const uint32_t kinds[] = {1, 1u << 31 | 1};                    /* one string, one identifier */
     const uint32_t small[] = {0u << 1 | 2u << 24, 2u << 1 | 3u << 24}; /* offset 0 length 2, offset 2 length 3 */
     const uint32_t overflow[] = {0, 0};
@@ -75,12 +86,23 @@ static int strings(void)
                                        2 * HBC_STRING_WORDS);
     if (refused("strings", code))
         return 1;
-    for (size_t i = 0; i < code; i++) {
-        size_t start, len;
-        hbc_string_bytes(storage, sizeof storage, rows, 2 * HBC_STRING_WORDS, i, &start, &len);
-        printf("string %zu: %.*s%s\n", i, (int)len, (const char *)storage + start,
-               rows[i * HBC_STRING_WORDS + HBC_STRING_MARKS] & HBC_MARK_IDENTIFIER ? ", an identifier" : "");
-    }
+    print_strings(rows, code);
+    return 0;
+}
+
+/* Two names that share an overflow pair, as a linker may write them: Hermes mode takes the pair that each names. */
+static int shared(void)
+{
+    const uint32_t kinds[] = {0, 1u << 31 | 2};                            /* no string, two identifiers */
+    const uint32_t small[] = {1u << 1 | 255u << 24, 1u << 1 | 255u << 24}; /* pair 1, pair 1 */
+    const uint32_t overflow[] = {0, 2, 2, 3};                              /* offset 0 length 2, offset 2 length 3 */
+    uint32_t rows[2 * HBC_STRING_WORDS];
+    uint64_t code = hbc_decode_strings_hermes(2, kinds, 2, small, 2, overflow, 4, storage, sizeof storage, rows,
+                                              2 * HBC_STRING_WORDS);
+    if (refused("strings as Hermes", code))
+        return 1;
+    printf("as Hermes, with a pair shared\n");
+    print_strings(rows, code);
     return 0;
 }
 
@@ -104,5 +126,5 @@ static int literals(void)
 
 int main(void)
 {
-    return functions() || strings() || literals();
+    return functions() || strings() || shared() || literals();
 }

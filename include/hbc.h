@@ -54,7 +54,7 @@
 #define HBC_REFUSED_TOO_FEW_ROWS 4      /* a lent table has too few rows, or the buffer too few bytes */
 #define HBC_REFUSED_CUT 3               /* a read needs bytes past the end */
 #define HBC_REFUSED_LEB128_TOO_LONG 5   /* the tenth byte of a LEB128 number has bit 7 set */
-#define HBC_REFUSED_NO_OVERFLOW_PAIR 8  /* no overflow entry is left */
+#define HBC_REFUSED_NO_OVERFLOW_PAIR 8  /* no overflow entry is left; in Hermes mode, none has the field's number */
 #define HBC_REFUSED_NO_ZERO 9           /* a zero-ended string has no zero */
 
 /* The most bytes that are read, and that a buffer may have. */
@@ -253,7 +253,7 @@ uint64_t hbc_read_u32_table(const uint8_t *s, size_t s_len, size_t *at, uint32_t
 uint64_t hbc_read_pair_table(const uint8_t *s, size_t s_len, size_t *at, uint32_t count, uint32_t *table,
                              size_t table_len);
 
-/* A row of hbc_decode_strings: start in the storage, byte length, 0 valid or 1 invalid (start and length are then 0),
+/* A row of decoded strings: start in the storage, byte length, 0 valid or 1 invalid (start and length are then 0),
  * and the marks, their sum if both. */
 #define HBC_STRING_WORDS 4
 #define HBC_STRING_START 0
@@ -264,7 +264,9 @@ uint64_t hbc_read_pair_table(const uint8_t *s, size_t s_len, size_t *at, uint32_
 #define HBC_MARK_IDENTIFIER 2
 
 /* One row for each of the first n strings, n being the lesser of `count` and `small_len`. Overflow pairs are taken in
- * order: the offset field of an entry that needs one is not looked at.
+ * order, as the published Rust takes them: the offset field of an entry that needs one is not looked at; and an empty
+ * kind run, but for the first, names the string at which it comes up. For files that reuse pairs or have empty runs
+ * there is Hermes mode, below.
  * `kinds`: the words of the kind runs. `small`: the small entries, a word each. `overflow`: pairs, two words each; a
  * last word without its partner is none.
  * Accepted, the answer is n, a number below 2^32; words past the rows stay.
@@ -273,6 +275,17 @@ uint64_t hbc_read_pair_table(const uint8_t *s, size_t s_len, size_t *at, uint32_
 uint64_t hbc_decode_strings(uint32_t count, const uint32_t *kinds, size_t kinds_len, const uint32_t *small,
                             size_t small_len, const uint32_t *overflow, size_t overflow_len, const uint8_t *storage,
                             size_t storage_len, uint32_t *rows, size_t rows_len);
+
+/* The same in Hermes mode, which reads as Hermes does. An entry of length 255 takes the pair whose number, counted from
+ * 0, is in its offset field (bits 1 to 23): pairs may be shared, and be in any order. The kind run of string i is the
+ * first whose lengths, added up from the first run on, exceed i: an empty run names no string, and past the last run a
+ * string is no identifier. All else is as above. Where the entries of length 255 have the numbers of the pairs in order
+ * and no run is empty, both calls answer and write the same.
+ * Refused 1 and 4 as above; 8 if the number in an entry of length 255 is not below the number of whole pairs lent, with
+ * the first such string's number as place. */
+uint64_t hbc_decode_strings_hermes(uint32_t count, const uint32_t *kinds, size_t kinds_len, const uint32_t *small,
+                                   size_t small_len, const uint32_t *overflow, size_t overflow_len,
+                                   const uint8_t *storage, size_t storage_len, uint32_t *rows, size_t rows_len);
 
 /* The bytes of one string, by row `index` of such rows: `*len` of them from `storage + *start` on, always within the
  * storage. Both are 0 where there is no such row, where its third word is not 0, and where it leaves the storage.

@@ -1,5 +1,7 @@
 // The calls on string tables.
+ghost use Rattle.hbc_table_strings.specs.declared.Mode.the-variants.{InOrder, Hermes};
 ghost use Rattle.hbc_c_table.specs.Table.{ToldTable, ToldStrings, ToldPart};
+use hbc_table_strings::Mode;
 
 #[no_mangle]
 pub extern "C" fn hbc_read_u32_table(s: &[u8], at: &mut usize, count: u32, table: &mut [u32]) -> u64
@@ -31,11 +33,29 @@ pub extern "C" fn hbc_decode_strings(
     rows: &mut [u32],
 ) -> u64
     ensures { λ r. ⌜
-        ToldStrings count (now (kinds .entry)) (now (small .entry)) (now (overflow .entry)) (now (storage .entry)) (now (rows .entry))
+        ToldStrings InOrder count (now (kinds .entry)) (now (small .entry)) (now (overflow .entry)) (now (storage .entry)) (now (rows .entry))
         r (now (rows .exit))
         ⌝ }
 {
-    hbc_c_table::decode_strings(count, kinds, small, overflow, storage, rows)
+    hbc_c_table::decode_strings(Mode::InOrder, count, kinds, small, overflow, storage, rows)
+}
+
+// The same with pairs and runs as Hermes chooses them.
+#[no_mangle]
+pub extern "C" fn hbc_decode_strings_hermes(
+    count: u32,
+    kinds: &[u32],
+    small: &[u32],
+    overflow: &[u32],
+    storage: &[u8],
+    rows: &mut [u32],
+) -> u64
+    ensures { λ r. ⌜
+        ToldStrings Hermes count (now (kinds .entry)) (now (small .entry)) (now (overflow .entry)) (now (storage .entry)) (now (rows .entry))
+        r (now (rows .exit))
+        ⌝ }
+{
+    hbc_c_table::decode_strings(Mode::Hermes, count, kinds, small, overflow, storage, rows)
 }
 
 // A part does not cross the boundary: the caller takes it out of the storage by its start and length.

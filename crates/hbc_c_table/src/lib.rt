@@ -4,6 +4,7 @@ use hbc_c_code::code;
 use hbc_io::Cursor;
 use hbc_io::Moved;
 use hbc_table_strings::Decoded;
+use hbc_table_strings::Mode;
 
 pub fn read_u32_table(s: &[u8], at: &mut usize, count: u32, table: &mut [u32]) -> u64
     ensures { λ r. ⌜ ToldTable 1 (now (s .entry)) (now (at .entry)) count (now (table .entry)) r (now (at .exit)) (now (table .exit)) ⌝ }
@@ -35,8 +36,9 @@ pub fn read_pair_table(s: &[u8], at: &mut usize, count: u32, table: &mut [u32]) 
     }
 }
 
-// Accepted, the answer is the number of rows written.
+// Accepted, the answer is the number of rows written. Each mode has an export of its own.
 pub fn decode_strings(
+    mode: Mode,
     count: u32,
     kinds: &[u32],
     small: &[u32],
@@ -45,11 +47,11 @@ pub fn decode_strings(
     rows: &mut [u32],
 ) -> u64
     ensures { λ r. ⌜
-        ToldStrings count (now (kinds .entry)) (now (small .entry)) (now (overflow .entry)) (now (storage .entry)) (now (rows .entry))
+        ToldStrings mode count (now (kinds .entry)) (now (small .entry)) (now (overflow .entry)) (now (storage .entry)) (now (rows .entry))
         r (now (rows .exit))
         ⌝ }
 {
-    match hbc_table_strings::decode_strings(count, kinds, small, overflow, storage, rows) {
+    match hbc_table_strings::decode_strings(mode, count, kinds, small, overflow, storage, rows) {
         Decoded::Rows(n) => n as u64,
         Decoded::Refused(r) => code(r),
     }

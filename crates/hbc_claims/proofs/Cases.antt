@@ -16,7 +16,8 @@ use Rattle.hbc_rows.specs.Rows.{entryAt, filled, put, rowAt, putRow, putRows}
 use Rattle.hbc_function_bytes.specs.Bytes.{valuesIn, goesInline, inlineNumber, inlineBytes, largeBytes, pointerTo, rightRow}
 use Rattle.hbc_function_write.specs.Write.{freeAt, placeAt, endAt, headOf, putLarge, putHeader, putHeaders, rightEnd, checked, follows, writeAnswer}
 use Rattle.hbc_table_strings.specs.Kinds.{runKind, holding, movedOn, heldAt, kindOf}
-use Rattle.hbc_table_strings.specs.Entries.{longOne, pairsTaken, pairTaken, lacksPair, pairAt, entryOf, bytesOf}
+use Rattle.hbc_table_strings.specs.Entries.{longOne, pairsTaken, lacksPair, pairAt, entryOf, bytesOf}
+use Rattle.hbc_table_strings.specs.Hermes.{runLength, lengths, firstPast}
 use Rattle.hbc_table_strings.specs.Row.{rowFor, rowWith, rowOf}
 use Rattle.hbc_table_strings.specs.Strings.{scan, lesser, decodeAnswer}
 use Rattle.hbc_buffer_literal.specs.Literal.{widthOf, literalOf}
@@ -24,6 +25,6 @@ use Rattle.hbc_buffer.specs.Series.{tagAt, headAt, runAt, step, after, valueAt,
 use Rattle.hbc_claims.specs.Cases.{cases}
 
 pub hold : All cases
-unfolding readFunction functions.readAnswer functions.scan functions.step functions.putRows legacyWords modernWords functionAt recordAt whereAt whereOf groundOf inlineOf largeAt flagsOf placeOf linkOf legacyOf modernOf legacyLarge modernLarge legacyPlace modernPlace leAt field overflowed below choose decodeAnswer lesser scan lacksPair rowOf rowWith rowFor entryOf bytesOf longOne pairsTaken pairTaken pairAt kindOf runKind movedOn heldAt holding entryAt putRow putRows seriesAnswer filled valueAt after step runAt headAt tagAt plainAt widthOf literalOf lebBytes legacyBy modernBy fieldsOf joined fit laid put rowAt valuesIn goesInline inlineNumber inlineBytes largeBytes pointerTo rightRow freeAt placeAt endAt headOf putLarge putHeader putHeaders rightEnd checked follows writeAnswer
+unfolding readFunction functions.readAnswer functions.scan functions.step functions.putRows legacyWords modernWords functionAt recordAt whereAt whereOf groundOf inlineOf largeAt flagsOf placeOf linkOf legacyOf modernOf legacyLarge modernLarge legacyPlace modernPlace leAt field overflowed below choose decodeAnswer lesser scan lacksPair rowOf rowWith rowFor entryOf bytesOf longOne pairsTaken runLength lengths firstPast pairAt kindOf runKind movedOn heldAt holding entryAt putRow putRows seriesAnswer filled valueAt after step runAt headAt tagAt plainAt widthOf literalOf lebBytes legacyBy modernBy fieldsOf joined fit laid put rowAt valuesIn goesInline inlineNumber inlineBytes largeBytes pointerTo rightRow freeAt placeAt endAt headOf putLarge putHeader putHeaders rightEnd checked follows writeAnswer
 hold =
-    (refl, (refl, (refl, (or-shifted 1 24 32 (lit< tt), ((refl, refl, refl, refl, refl), ((refl, refl, refl, refl, refl), ((refl, refl, refl, refl, refl), ((refl, refl, refl, refl, refl), ((refl, refl), ((refl, refl), ((refl, refl), ((refl, refl), ((refl, refl), (refl, (refl, (refl, ((refl, refl), ((refl, refl), ((refl, refl), ((refl, or-shifted 1 24 32 (lit< tt)), ((refl, refl), ((refl, refl), ((refl, refl), ((refl, refl), tt))))))))))))))))))))))))
+    (refl, (refl, (refl, (or-shifted 1 24 32 (lit< tt), ((refl, refl, refl, refl, refl), ((refl, refl, refl, refl, refl), ((refl, refl, refl, refl, refl), ((refl, refl, refl, refl, refl), ((refl, refl), ((refl, refl), ((refl, refl), ((refl, refl), ((refl, refl), (refl, (refl, (refl, ((refl, refl), ((refl, refl), ((refl, refl), ((refl, or-shifted 1 24 32 (lit< tt)), ((refl, refl), ((refl, refl), ((refl, refl), ((refl, refl), ((refl, refl), ((refl, refl), ((refl, refl), ((refl, refl), ((refl, refl), ((refl, refl), ((refl, refl), ((refl, refl), ((refl, refl), ((refl, refl), tt))))))))))))))))))))))))))))))))))

@@ -24,6 +24,7 @@ use Rattle.hbc_function.specs.declared.Refreshed.the-variants as refreshed
 use Rattle.hbc_function.specs.Table.{ReadFunctions}
 use Rattle.hbc_function.specs.Refresh.{RefreshFunctions}
 use Rattle.hbc_table.specs.Table.{ReadTable}
+use Rattle.hbc_table_strings.specs.declared.Mode.{Mode}
 use Rattle.hbc_table_strings.specs.declared.Decoded.the-variants as decoded
 use Rattle.hbc_table_strings.specs.Strings.{DecodeStrings}
 use Rattle.hbc_buffer.specs.declared.Series.the-variants as series
@@ -53,6 +54,7 @@ use Rattle.hbc_claims_function.proofs.OneOutput as outputs
 use Rattle.hbc_claims_function.specs.Written.{Written}
 use Rattle.hbc_claims_table.proofs.Tables as r-table
 use Rattle.hbc_claims_table.proofs.Strings as r-strings
+use Rattle.hbc_claims_table.proofs.Modes as r-modes
 use Rattle.hbc_claims_table.proofs.Unique as u-table
 use Rattle.hbc_claims_buffer.proofs.Refused as r-buffer
 use Rattle.hbc_claims_buffer.proofs.Used as used
@@ -71,7 +73,7 @@ use Rattle.hbc_claims_debug.proofs.Left as r-debug
 use Rattle.hbc_claims_debug.proofs.Unique as u-debug
 use Rattle.hbc_claims_c.proofs.Left as r-c
 use Rattle.hbc_claims_c.proofs.Unique as u-c
-use Rattle.hbc_claims.specs.Theorems.{Unique, Theorems, AsFresh, CountedLeft, CursorLeft, DebugRead, Edited, Exact, ExportedLeft, HandlersRead, Meets, ObjectRead, Packed, Reader, Reads, Refreshes, SectionsRead, SeriesRead, StringsRead, TableRead, TablesLeft, Whole, Writes}
+use Rattle.hbc_claims.specs.Theorems.{Unique, Theorems, AsFresh, CountedLeft, CursorLeft, DebugRead, Edited, Exact, ExportedLeft, HandlersRead, Meets, Modes, ObjectRead, Packed, Reader, Reads, Refreshes, SectionsRead, SeriesRead, StringsRead, TableRead, TablesLeft, Whole, Writes}
 use Rattle.hbc_claims.proofs.Cases.{hold}
 use Rattle.hbc_claims.proofs.Unique as u-listing
 use Rattle.hbc_claims.proofs.Records as u-records
@@ -145,7 +147,7 @@ cursor-left s c k n = record {
 tables-left : (k : Refusal) → TablesLeft k
 tables-left k = record {
   table = λ width s c count t t′ n. r-table.table-left width s c count t t′ k n;
-  decode-strings = λ count kinds small overflow storage t t′ v. v .leaves;
+  decode-strings = λ mode count kinds small overflow storage t t′ v. v .leaves;
   read-functions = λ s layout start count t t′ v. v .leaves;
   refresh-functions = λ s layout start count low high t t′ v. v .leaves;
   function-row = λ s layout start i t t′ v. v .leaves;
@@ -182,7 +184,7 @@ counted-left s r h = record {
   hbc-refresh-functions = λ l start count low high t. r-c.hbc-refresh l s start t h count low high;
   hbc-read-function = λ l start i t. r-c.hbc-function l s start t h i;
   hbc-write-functions = λ rows l start count large. r-c.hbc-write l rows start count large s h;
-  hbc-decode-strings = λ count kinds small overflow t k. r-c.hbc-strings count kinds small overflow s t k h;
+  hbc-decode-strings = λ mode count kinds small overflow t k. r-c.hbc-strings mode count kinds small overflow s t k h;
   hbc-read-series = λ offset count ks ps. r-c.hbc-series s offset count ks ps h;
   hbc-read-object = λ keys values n offset count ks ps. r-c.hbc-object keys values n offset count ks ps h;
   hbc-trailing-sections = λ start regexps storage cjs given sources t. r-c.hbc-sections s start regexps storage cjs given sources t h;
@@ -212,14 +214,27 @@ table-read {width} {s} {c} {count} {t} {n} {t′} v = record {
   behind = r-table.read-behind width s c count t t′ n v;
 }
 
-strings-read : {count : ℕ} {kinds small overflow storage t : List ℕ} {n : ℕ} {t′ : List ℕ} → DecodeStrings count kinds small overflow storage t (decoded.Rows n) t′
-    → StringsRead count kinds small overflow storage t n t′
-strings-read {count} {kinds} {small} {overflow} {storage} {t} {n} {t′} v = record {
-  counts = r-strings.decoded-count count kinds small overflow storage t t′ n v;
-  row = r-strings.decoded-row count kinds small overflow storage t t′ n v;
-  behind = r-strings.decoded-behind count kinds small overflow storage t t′ n v;
-  within = r-strings.row-within kinds small overflow (length storage);
-  bytes = r-strings.decoded-bytes count kinds small overflow storage t t′ n v;
+strings-read : (mode : Mode) (count : ℕ) (kinds small overflow storage t : List ℕ) (n : ℕ) (t′ : List ℕ) → DecodeStrings mode count kinds small overflow storage t (decoded.Rows n) t′
+    → StringsRead mode count kinds small overflow storage t n t′
+strings-read mode count kinds small overflow storage t n t′ v =
+    let e = r-strings.decoded-count mode count kinds small overflow storage t t′ n v in
+    record {
+      counts = e;
+      row = r-strings.decoded-row mode count kinds small overflow storage t t′ n v;
+      behind = r-strings.decoded-behind mode count kinds small overflow storage t t′ n v;
+      within = r-strings.row-within mode kinds small overflow (length storage);
+      bytes = r-strings.decoded-bytes mode count kinds small overflow storage t t′ n v;
+      pairs = rw e (r-modes.pairs-there mode small overflow count storage t n (sym (v .says)));
+    }
+
+modes : (count : ℕ) (kinds small overflow storage : List ℕ) → Modes count kinds small overflow storage
+modes count kinds small overflow storage = record {
+  as-before = λ t t′ r v. r-modes.as-before kinds small overflow count storage t r t′ v;
+  before-as = λ t t′ r v. r-modes.before-as kinds small overflow count storage t r t′ v;
+  kind = r-modes.by-lengths kinds;
+  row = r-modes.as-hermes kinds small overflow (length storage);
+  lacking = λ mode t t′ k v e. r-modes.pair-lacking mode small overflow count storage t k e (sym (v .says));
+  agree = λ t t₁ t₂ r q v a b. r-modes.modes-agree kinds small overflow count storage t r q t₁ t₂ v a b;
 }
 
 series-read : (s : List ℕ) (offset count : ℕ) (ks ps : List ℕ) (n : ℕ) (ks′ ps′ : List ℕ) → ReadSeries s offset count ks ps (series.Used n) ks′ ps′
@@ -293,7 +308,8 @@ theorems = record {
   packing = packing;
   whole = whole;
   table-read = λ width s c count t n t′ v. table-read {width = width} {s = s} {c = c} {count = count} v;
-  strings-read = λ count kinds small overflow storage t n t′ v. strings-read {count = count} {kinds = kinds} {small = small} {overflow = overflow} {storage = storage} v;
+  strings-read = strings-read;
+  modes = modes;
   series-read = series-read;
   object-read = object-read;
   handlers-read = handlers-read;

@@ -1,5 +1,5 @@
--- docs/FORMAT.md, section 10.1: the worked cases that are proved, P1 to P10, and W1 to W5, of which Wn is Pn the other way round, in one list under one
--- statement. A case is any statement over the promises' definitions.
+-- docs/FORMAT.md, section 10.1: the worked cases that are proved, P1 to P10, W1 to W5, of which Wn is Pn the other way round, and H1 and H2, on which
+-- the modes of decoding strings differ, in one list under one statement. A case is any statement over the promises' definitions.
 use Prim.Native.Nat.{ℕ}
 use mathlib.Core.Path.{_≡_}
 use mathlib.Core.List.{List, [], _∷_, _++_}
@@ -22,6 +22,8 @@ use Rattle.hbc_function.specs.Table as functions
 use Rattle.hbc_rows.specs.Rows.{rowAt}
 use Rattle.hbc_function_bytes.specs.Bytes.{inlineBytes}
 use Rattle.hbc_function_write.specs.Write.{headOf, putHeaders, writeAnswer}
+use Rattle.hbc_table_strings.specs.declared.Mode.{Mode}
+use Rattle.hbc_table_strings.specs.declared.Mode.the-variants.{InOrder, Hermes}
 use Rattle.hbc_table_strings.specs.Strings.{lesser, decodeAnswer, decodedRows}
 use Rattle.hbc_buffer.specs.Series.{seriesAnswer, seriesTables}
 
@@ -41,11 +43,16 @@ Large layout s place bytes one all row =
     × (written (functions.readAnswer s layout 0 1 width) (functions.putRows functions.all (functionAt s layout 0) (replicate width 9) 1)
     (replicate width 9) ≡ row)
 
--- so many strings of these runs and small entries, no pairs, storage of four bytes, over a lent table: the answer, and the table afterwards
+-- so many strings of these runs, small entries and pairs, storage of four bytes, over a lent table: the answer, and the table afterwards
+abbrev pub DecodesIn : Mode → ℕ → List ℕ → List ℕ → List ℕ → List ℕ → Answer ℕ → List ℕ → Type 0
+DecodesIn mode count kinds small pairs before answer after =
+    (decodeAnswer mode count small pairs (replicate 4 0) before ≡ answer)
+    × (written (decodeAnswer mode count small pairs (replicate 4 0) before)
+    (decodedRows mode kinds small pairs 4 (lesser count (length small)) before) before ≡ after)
+
+-- accepted in the old mode, without pairs
 abbrev pub Decodes : ℕ → List ℕ → List ℕ → List ℕ → List ℕ → Type 0
-Decodes count kinds small before after =
-    (decodeAnswer count small [] (replicate 4 0) before ≡ gives count)
-    × (written (decodeAnswer count small [] (replicate 4 0) before) (decodedRows kinds small [] 4 (lesser count (length small)) before) before ≡ after)
+Decodes count kinds small before after = DecodesIn InOrder count kinds small [] before (gives count) after
 
 -- a buffer, read from its first byte into two tables of as many zeros as values: the bytes used, the kinds, the payloads
 abbrev pub Reads : List ℕ → ℕ → ℕ → List ℕ → List ℕ → Type 0
@@ -105,4 +112,16 @@ cases =
     ∷ Writes Modern12 (rec.Modern (modern 0 0 0 0 0 0 0 0 0 0 0 0 0 52)) 12 48 (refusedAt 4 0) (replicate 48 9)
     ∷ Writes Legacy16 (rec.Legacy (legacy 0 0 0 0 0 0 0 0 0 32)) 16 47 (gives 47) (legacyFile 30 ++ 32 ∷ [])
     ∷ Writes Legacy16 (rec.Legacy (legacy 0 0 0 0 0 0 0 0 0 32)) 16 46 (refusedAt 4 0) (replicate 46 9)
+    -- H1: the modes differ by the pair. One string with the number 1, of one pair and of two; and two strings that share one
+    ∷ DecodesIn InOrder 1 [] (0xFF000002 ∷ []) (1 ∷ 2 ∷ []) (replicate 4 9) (gives 1) (1 ∷ 2 ∷ 0 ∷ 0 ∷ [])
+    ∷ DecodesIn Hermes 1 [] (0xFF000002 ∷ []) (1 ∷ 2 ∷ []) (replicate 4 9) (refusedAt 8 0) (replicate 4 9)
+    ∷ DecodesIn InOrder 1 [] (0xFF000002 ∷ []) (0 ∷ 1 ∷ 1 ∷ 2 ∷ []) (replicate 4 9) (gives 1) (0 ∷ 1 ∷ 0 ∷ 0 ∷ [])
+    ∷ DecodesIn Hermes 1 [] (0xFF000002 ∷ []) (0 ∷ 1 ∷ 1 ∷ 2 ∷ []) (replicate 4 9) (gives 1) (1 ∷ 2 ∷ 0 ∷ 0 ∷ [])
+    ∷ DecodesIn InOrder 2 [] (0xFF000000 ∷ 0xFF000000 ∷ []) (1 ∷ 2 ∷ []) (replicate 8 9) (refusedAt 8 1) (replicate 8 9)
+    ∷ DecodesIn Hermes 2 [] (0xFF000000 ∷ 0xFF000000 ∷ []) (1 ∷ 2 ∷ []) (replicate 8 9) (gives 2) (1 ∷ 2 ∷ 0 ∷ 0 ∷ 1 ∷ 2 ∷ 0 ∷ 0 ∷ [])
+    -- H2: they differ by the run. One string; two runs, both empty, the second of identifiers; and two empty ones before one of an identifier
+    ∷ DecodesIn InOrder 1 (0 ∷ 0x80000000 ∷ []) (0 ∷ []) [] (replicate 4 9) (gives 1) (0 ∷ 0 ∷ 0 ∷ 2 ∷ [])
+    ∷ DecodesIn Hermes 1 (0 ∷ 0x80000000 ∷ []) (0 ∷ []) [] (replicate 4 9) (gives 1) (0 ∷ 0 ∷ 0 ∷ 0 ∷ [])
+    ∷ DecodesIn InOrder 1 (0 ∷ 0 ∷ 0x80000001 ∷ []) (0 ∷ []) [] (replicate 4 9) (gives 1) (0 ∷ 0 ∷ 0 ∷ 0 ∷ [])
+    ∷ DecodesIn Hermes 1 (0 ∷ 0 ∷ 0x80000001 ∷ []) (0 ∷ []) [] (replicate 4 9) (gives 1) (0 ∷ 0 ∷ 0 ∷ 2 ∷ [])
     ∷ []

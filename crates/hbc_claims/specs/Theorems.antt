@@ -62,6 +62,9 @@ use Rattle.hbc_function_write.specs.Write.{WriteFunctions}
 use Rattle.hbc_rows.specs.Rows.{entryAt, rowAt}
 use Rattle.hbc_rows.specs.Until.{until}
 use Rattle.hbc_table.specs.Table.{ReadTable}
+use Rattle.hbc_table_strings.specs.declared.Mode.{Mode}
+use Rattle.hbc_table_strings.specs.declared.Mode.the-variants.{InOrder, Hermes}
+use Rattle.hbc_table_strings.specs.declared.Decoded.{Decoded}
 use Rattle.hbc_table_strings.specs.declared.Decoded.the-variants as decoded
 use Rattle.hbc_table_strings.specs.Row.{stringWidth, stringWords, rowOf}
 use Rattle.hbc_table_strings.specs.Strings.{lesser, DecodeStrings}
@@ -108,6 +111,8 @@ use Rattle.hbc_claims_function.specs.Unique as u-function
 use Rattle.hbc_claims_function.specs.Written.{Written, ReadsBack, Headed, Kept, Placed}
 use Rattle.hbc_claims_table.specs.Unique as u-table
 use Rattle.hbc_claims_table.specs.Within.{Within}
+use Rattle.hbc_claims_table.specs.Before as was
+use Rattle.hbc_claims_table.specs.Modes.{ByLengths, PairsThere, FirstLacking, Tidy, AsHermes}
 use Rattle.hbc_claims_buffer.specs.Unique as u-buffer
 use Rattle.hbc_claims_parsing.specs.SectionPairs.{Fits, SourcesFit}
 use Rattle.hbc_claims_parsing.specs.SectionSizes.{Counted}
@@ -120,7 +125,7 @@ use Rattle.hbc_claims.specs.Cases.{cases}
 use Rattle.hbc_claims.specs.Unique as u-listing
 use Rattle.hbc_claims.specs.Records as u-records
 
--- ==== 1. The worked cases: P1 to P10, and W1 to W5, of docs/FORMAT.md, section 10.1, each stated in Cases, one list (`worked`)
+-- ==== 1. The worked cases: P1 to P10, W1 to W5, H1 and H2 of docs/FORMAT.md, section 10, each stated in Cases, one list (`worked`)
 -- ==== 2. Uniqueness (`unique`) of every public call, by layers, and of every exported one: two outcomes that both meet its contract, as the checker has it,
 -- are equal: the answer, and every word or number that was lent to it; each by the one law of hbc_claims_law, what equals one thing is one thing
 pub record Unique : Type 0 where
@@ -217,8 +222,8 @@ pub record TablesLeft (k : Refusal) : Type 0 where
   -- read_u32_table (width 1), read_pair_table (width 2); and the cursor
   pub table : (width : ℕ) (s : List ℕ) (c : Cursor) (count : ℕ) (t t′ : List ℕ) (n : Cursor) → ReadTable width s c count t (moved.Refused k n) t′
       → (t′ ≡ t) × (n ≡ c)
-  pub decode-strings : (count : ℕ) (kinds small overflow storage t t′ : List ℕ)
-      → DecodeStrings count kinds small overflow storage t (decoded.Refused k) t′ → t′ ≡ t
+  pub decode-strings : (mode : Mode) (count : ℕ) (kinds small overflow storage t t′ : List ℕ)
+      → DecodeStrings mode count kinds small overflow storage t (decoded.Refused k) t′ → t′ ≡ t
   pub read-functions : (s : List ℕ) (layout : Layout) (start count : ℕ) (t t′ : List ℕ) → ReadFunctions s layout start count t (reading.Refused k) t′ → t′ ≡ t
   pub refresh-functions : (s : List ℕ) (layout : Layout) (start count low high : ℕ) (t t′ : List ℕ)
       → RefreshFunctions s layout start count low high t (refreshed.Refused k) t′ → t′ ≡ t
@@ -273,7 +278,9 @@ pub record CountedLeft (s : List ℕ) (r : ℕ) : Type 0 where
   pub hbc-read-function : (l start i : ℕ) (t : List ℕ) {t′ : List ℕ} → ToldFunction s l start i t r t′ → t′ ≡ t
   -- s being the buffer here
   pub hbc-write-functions : (rows : List ℕ) (l start count large : ℕ) {b′ : List ℕ} → ToldWrite rows l start count large s r b′ → b′ ≡ s
-  pub hbc-decode-strings : (count : ℕ) (kinds small pairs t : List ℕ) {t′ : List ℕ} → count < 2 ^ 32 → ToldStrings count kinds small pairs s t r t′ → t′ ≡ t
+  -- and hbc_decode_strings_hermes
+  pub hbc-decode-strings : (mode : Mode) (count : ℕ) (kinds small pairs t : List ℕ) {t′ : List ℕ} → count < 2 ^ 32
+      → ToldStrings mode count kinds small pairs s t r t′ → t′ ≡ t
   pub hbc-read-series : (offset count : ℕ) (ks ps : List ℕ) {ks′ ps′ : List ℕ} → ToldSeries s offset count ks ps r ks′ ps′ → (ks′ ≡ ks) × (ps′ ≡ ps)
   pub hbc-read-object : (keys values : List ℕ) (n offset count : ℕ) (ks ps : List ℕ) {ks′ ps′ : List ℕ} → ToldObject keys values n offset count ks ps r ks′ ps′
       → (ks′ ≡ ks) × (ps′ ≡ ps)
@@ -316,17 +323,37 @@ pub record TableRead (width : ℕ) (s : List ℕ) (c : Cursor) (count : ℕ) (t 
   pub word : (i : ℕ) → i < width * count → entryAt t′ i ≡ leAt s (c .at + 4 * i) 4
   pub behind : Behind (width * count) t t′
 
--- decode_strings, n rows (`strings-read`):
-pub record StringsRead (count : ℕ) (kinds small overflow storage t : List ℕ) (n : ℕ) (t′ : List ℕ) : Type 0 where
+-- decode_strings in either mode, n rows (`strings-read`):
+pub record StringsRead (mode : Mode) (count : ℕ) (kinds small overflow storage t : List ℕ) (n : ℕ) (t′ : List ℕ) : Type 0 where
   -- as many as the lesser of the count and the entries, row i that of string i, every other word as it was, and the table as long
   pub counts : n ≡ lesser count (length small)
-  pub row : (i : ℕ) → i < n → rowAt stringWidth t′ i ≡ stringWords (rowOf kinds small overflow (length storage) i)
+  pub row : (i : ℕ) → i < n → rowAt stringWidth t′ i ≡ stringWords (rowOf mode kinds small overflow (length storage) i)
   pub behind : Behind (n * stringWidth) t t′
   -- a row lies in the storage: a valid one starts before its end and ends in it, an invalid one is empty
-  pub within : (i : ℕ) → Within (length storage) (rowOf kinds small overflow (length storage) i)
+  pub within : (i : ℕ) → Within (length storage) (rowOf mode kinds small overflow (length storage) i)
   -- and string_bytes then hands back the bytes that it says
   pub bytes : (i : ℕ) → i < n → stringBytes storage t′ i
-      ≡ take (rowOf kinds small overflow (length storage) i .bytes) (drop (rowOf kinds small overflow (length storage) i .start) storage)
+      ≡ take (rowOf mode kinds small overflow (length storage) i .bytes) (drop (rowOf mode kinds small overflow (length storage) i .start) storage)
+  -- each string of length 255 has its pair: in order the next, in Hermes mode the one whose number is in the offset field
+  pub pairs : PairsThere mode small overflow n
+
+-- the two modes of decode_strings (`modes`):
+pub record Modes (count : ℕ) (kinds small overflow storage : List ℕ) : Type 0 where
+  -- what the old one promises is what decode_strings promised while there was no other, word for word as it was, and the other way round
+  pub as-before : (t t′ : List ℕ) (r : Decoded) → DecodeStrings InOrder count kinds small overflow storage t r t′
+      → was.DecodeStrings count kinds small overflow storage t r t′
+  pub before-as : (t t′ : List ℕ) (r : Decoded) → was.DecodeStrings count kinds small overflow storage t r t′
+      → DecodeStrings InOrder count kinds small overflow storage t r t′
+  -- in Hermes mode a string's kind is that of the run one of whose strings it is, by the lengths of runs, added up, and past the last run a plain string's;
+  -- and of length 255 it takes the pair whose number is in the offset field
+  pub kind : ByLengths kinds
+  pub row : (i : ℕ) → AsHermes kinds small overflow (length storage) i
+  -- refused 8 in either mode: at the first string of length 255 whose pair, as above, is past the whole pairs lent
+  pub lacking : (mode : Mode) (t t′ : List ℕ) (k : Refusal) → DecodeStrings mode count kinds small overflow storage t (decoded.Refused k) t′ → k .number ≡ 8
+      → FirstLacking mode small overflow (lesser count (length small)) (k .place)
+  -- where the strings of length 255 have the numbers of the pairs in order, and no run is empty, both give the same answer and the same rows
+  pub agree : (t t₁ t₂ : List ℕ) (r q : Decoded) → Tidy kinds small (lesser count (length small))
+      → DecodeStrings InOrder count kinds small overflow storage t r t₁ → DecodeStrings Hermes count kinds small overflow storage t q t₂ → (r ≡ q) × (t₁ ≡ t₂)
 
 -- read_series of n bytes (`series-read`):
 pub record SeriesRead (s : List ℕ) (offset count : ℕ) (ks ps : List ℕ) (n : ℕ) (ks′ ps′ : List ℕ) : Type 0 where
@@ -421,8 +448,9 @@ pub record Theorems : Type 2 where
   pub whole : (s : List ℕ) (k : ℕ) → Whole s k
   pub table-read : (width : ℕ) (s : List ℕ) (c : Cursor) (count : ℕ) (t : List ℕ) (n : Cursor) (t′ : List ℕ)
       → ReadTable width s c count t (moved.To n) t′ → TableRead width s c count t n t′
-  pub strings-read : (count : ℕ) (kinds small overflow storage t : List ℕ) (n : ℕ) (t′ : List ℕ)
-      → DecodeStrings count kinds small overflow storage t (decoded.Rows n) t′ → StringsRead count kinds small overflow storage t n t′
+  pub strings-read : (mode : Mode) (count : ℕ) (kinds small overflow storage t : List ℕ) (n : ℕ) (t′ : List ℕ)
+      → DecodeStrings mode count kinds small overflow storage t (decoded.Rows n) t′ → StringsRead mode count kinds small overflow storage t n t′
+  pub modes : (count : ℕ) (kinds small overflow storage : List ℕ) → Modes count kinds small overflow storage
   pub series-read : (s : List ℕ) (offset count : ℕ) (ks ps : List ℕ) (n : ℕ) (ks′ ps′ : List ℕ)
       → ReadSeries s offset count ks ps (series.Used n) ks′ ps′ → SeriesRead s offset count ks ps n ks′ ps′
   pub object-read : (keys values : List ℕ) (b : Bool) (offset count : ℕ) (ks ps : List ℕ) (o : Object) (ks′ ps′ : List ℕ)

@@ -30,6 +30,7 @@ use Rattle.hbc_function_header.specs.Meets.{meets}
 use Rattle.hbc_function.specs.Refresh.{refreshAnswer}
 use Rattle.hbc_function_write.specs.Write.{writeAnswer}
 use Rattle.hbc_table.specs.Table.{ReadTable}
+use Rattle.hbc_table_strings.specs.declared.Mode.{Mode}
 use Rattle.hbc_table_strings.specs.Strings.{lesser, decodeAnswer}
 use Rattle.hbc_buffer_literal.specs.declared.Literal.{Literal}
 use Rattle.hbc_buffer_literal.specs.Literal.{literalAt}
@@ -177,10 +178,10 @@ lesser-le a b = by (ltb a b) refl
     by true e = omega arith
     by false e = ltb-false a b e
 
-pub hbc-strings : (count : ℕ) (kinds small overflow storage before : List ℕ) {r : ℕ} {after : List ℕ} → count < 2 ^ 32 → 2 ^ 32 ≤ r
-    → ToldStrings count kinds small overflow storage before r after → after ≡ before
-hbc-strings count kinds small overflow storage before k h = left (λ n e q.
-    let a : n ≡ lesser count (length small) = decoded-count count kinds small overflow storage before _ n (record { says = sym e; leaves = refl }) in
+pub hbc-strings : (mode : Mode) (count : ℕ) (kinds small overflow storage before : List ℕ) {r : ℕ} {after : List ℕ} → count < 2 ^ 32 → 2 ^ 32 ≤ r
+    → ToldStrings mode count kinds small overflow storage before r after → after ≡ before
+hbc-strings mode count kinds small overflow storage before k h = left (λ n e q.
+    let a : n ≡ lesser count (length small) = decoded-count mode count kinds small overflow storage before _ n (record { says = sym e; leaves = refl }) in
     omega (arith, lesser-le count (length small)))
 
 -- ---- literals

@@ -57,6 +57,7 @@ unique = record {
   hbc_read_u32_table = λ k a r q s u. told.from-alone (λ x y. alone oneMoved);
   hbc_read_pair_table = λ k a r q s u. told.from-alone (λ x y. alone oneMoved);
   hbc_decode_strings = λ k a r q s u. told.alone (λ x y. alone oneDecoded);
+  hbc_decode_strings_hermes = λ k a r q s u. told.alone (λ x y. alone oneDecoded);
   hbc_string_bytes = (λ k a r q s u e f. same (e .starts) (f .starts), λ k a r q s u e f. same (e .lasts) (f .lasts));
   hbc_read_literal = (
     λ k a r q s u e f. let m = moves-one (e .tells) (f .tells) in (m .0, m .1, same (e .kind-left) (f .kind-left), same (e .number-left) (f .number-left)),

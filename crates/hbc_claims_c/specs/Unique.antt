@@ -31,6 +31,7 @@ use Rattle.hbc_c.proofs.function.hbc_function_meets.Reads as of-function-meets
 use Rattle.hbc_c.proofs.table.hbc_read_u32_table.Reads as of-read-u32-table
 use Rattle.hbc_c.proofs.table.hbc_read_pair_table.Reads as of-read-pair-table
 use Rattle.hbc_c.proofs.table.hbc_decode_strings.Reads as of-decode-strings
+use Rattle.hbc_c.proofs.table.hbc_decode_strings_hermes.Reads as of-decode-strings-hermes
 use Rattle.hbc_c.proofs.table.hbc_string_bytes.Reads as of-string-bytes
 use Rattle.hbc_c.proofs.buffer.hbc_read_literal.Reads as of-read-literal
 use Rattle.hbc_c.proofs.buffer.hbc_read_series.Reads as of-read-series
@@ -67,6 +68,7 @@ pub record Unique : Type 0 where
   pub hbc_read_u32_table : Both2 of-read-u32-table.Learnt (λ s. now (s .1 .0)) (λ s. now (s .1 .1 .1 .0))
   pub hbc_read_pair_table : Both2 of-read-pair-table.Learnt (λ s. now (s .1 .0)) (λ s. now (s .1 .1 .1 .0))
   pub hbc_decode_strings : Both of-decode-strings.Learnt (λ s. now (s .1 .1 .1 .1 .1 .0))
+  pub hbc_decode_strings_hermes : Both of-decode-strings-hermes.Learnt (λ s. now (s .1 .1 .1 .1 .1 .0))
   pub hbc_string_bytes : Words of-string-bytes.Learnt (λ s. now (s .1 .1 .1 .0)) × Words of-string-bytes.Learnt (λ s. now (s .1 .1 .1 .1 .0))
   pub hbc_read_literal :
       Both3 of-read-literal.Learnt (λ s. now (s .1 .0)) (λ s. now (s .1 .1 .1 .0)) (λ s. now (s .1 .1 .1 .1 .0))

@@ -1,3 +1,4 @@
 pub mod Unique
 pub mod Tables
 pub mod Strings
+pub mod Modes

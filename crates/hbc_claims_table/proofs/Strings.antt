@@ -14,6 +14,7 @@ use Rattle.hbc_io.specs.Plain.{partOf, spanOf}
 use Rattle.hbc_io.proofs.Exits.{reached, not-given}
 use Rattle.hbc_rows.specs.Rows.{rows, rowAt}
 use Rattle.hbc_rows.proofs.RowsAt.{rows-length, rows-apart, row-put, row-fits}
+use Rattle.hbc_table_strings.specs.declared.Mode.{Mode}
 use Rattle.hbc_table_strings.specs.declared.row.StringRow.{StringRow}
 use Rattle.hbc_table_strings.specs.declared.Decoded.the-variants.{Rows}
 use Rattle.hbc_table_strings.specs.Entries.{lacksPair}
@@ -25,29 +26,37 @@ use Rattle.hbc_claims_table.specs.Within.{Within}
 
 -- ---- how many
 
-turn : (a : Answer ℕ) (b : Bool) (i n : ℕ) → andThen a (λ _. choose b (refusedAt 8 i) (gives (suc i))) ≡ gives n → n ≡ suc i
+-- one string more: none was refused before it, and it has its pair
+pub record Turn (a : Answer ℕ) (b : Bool) (i n : ℕ) : Type 0 where
+  pub past : (k : ℕ) × (a ≡ gives k)
+  pub has : b ≡ false
+  pub next : n ≡ suc i
+
+pub turn : (a : Answer ℕ) (b : Bool) (i n : ℕ) → andThen a (λ _. choose b (refusedAt 8 i) (gives (suc i))) ≡ gives n → Turn a b i n
 unfolding choose
 turn (gives k) true i n e = absurd (not-given e)
-turn (gives k) false i n e = cc
+turn (gives k) false i n e = record { past = (k, refl); has = refl; next = cc }
 turn (refuses r) b i n e = absurd (not-given e)
 
-scan-rows : (small : List ℕ) (pairs m n : ℕ) → scan small pairs m ≡ gives n → n ≡ m
+scan-rows : (mode : Mode) (small : List ℕ) (pairs m n : ℕ) → scan mode small pairs m ≡ gives n → n ≡ m
 unfolding scan
-scan-rows small pairs zero n e = cc
-scan-rows small pairs (suc i) n e = turn (scan small pairs i) (lacksPair _ _ pairs) i n e
+scan-rows mode small pairs zero n e = cc
+scan-rows mode small pairs (suc i) n e = turn (scan mode small pairs i) (lacksPair _ _ pairs) i n e .next
 
--- accepted: so many rows, and the table has them
-record Accepted (count : ℕ) (small before : List ℕ) (n : ℕ) : Type 0 where
-  all : n ≡ lesser count (length small)
-  room : n ≤ rows stringWidth before
+-- accepted: so many rows, the table has them, and no string lacks its pair
+pub record Accepted (mode : Mode) (count : ℕ) (small overflow before : List ℕ) (n : ℕ) : Type 0 where
+  pub all : n ≡ lesser count (length small)
+  pub room : n ≤ rows stringWidth before
+  pub scanned : scan mode small (length overflow / 2) (lesser count (length small)) ≡ gives n
 
-accept : (count : ℕ) (small overflow storage before : List ℕ) (n : ℕ) → decodeAnswer count small overflow storage before ≡ gives n → Accepted count small before n
+pub accept : (mode : Mode) (count : ℕ) (small overflow storage before : List ℕ) (n : ℕ) → decodeAnswer mode count small overflow storage before ≡ gives n
+    → Accepted mode count small overflow before n
 unfolding decodeAnswer
-accept count small overflow storage before n e =
+accept mode count small overflow storage before n e =
     let p = reached _ _ _ _ not-given e in
     let q = reached _ _ _ _ not-given (p .1) in
-    let z : n ≡ lesser count (length small) = scan-rows small (length overflow / 2) (lesser count (length small)) n (q .1) in
-    record { all = z; room = rw z (q .0) }
+    let z : n ≡ lesser count (length small) = scan-rows mode small (length overflow / 2) (lesser count (length small)) n (q .1) in
+    record { all = z; room = rw z (q .0); scanned = q .1 }
 
 -- ---- a row within the storage
 
@@ -62,9 +71,9 @@ within start bytes marks storage true false e f =
 within start bytes marks storage false b e f =
     record { starts = λ z. absurd (omega arith); ends = omega arith; blank = λ _. refl }
 
-pub row-within : (kinds small overflow : List ℕ) (storage i : ℕ) → Within storage (rowOf kinds small overflow storage i)
+pub row-within : (mode : Mode) (kinds small overflow : List ℕ) (storage i : ℕ) → Within storage (rowOf mode kinds small overflow storage i)
 unfolding rowOf rowWith rowFor
-row-within kinds small overflow storage i = within _ _ _ storage _ _ refl refl
+row-within mode kinds small overflow storage i = within _ _ _ storage _ _ refl refl
 
 part-by : (s : List ℕ) (r : StringRow) → Within (length s) r → (b : Bool) → eqb (r .invalid) 0 ≡ b
     → partOf s (cond b (spanOf (r .start) (r .bytes)) (spanOf 0 0)) ≡ take (r .bytes) (drop (r .start) s)
@@ -85,17 +94,17 @@ bytes-at s t k r h e w = rw (lt-ltb k (rows stringWidth t) h, e) (part-by s r w 
 
 -- ---- all of them
 
-module _ (count : ℕ) (kinds small overflow storage before after : List ℕ) (n : ℕ) (v : DecodeStrings count kinds small overflow storage before (Rows n) after) where
-  ok : Accepted count small before n
-  ok = accept count small overflow storage before n (sym (v .says))
+module _ (mode : Mode) (count : ℕ) (kinds small overflow storage before after : List ℕ) (n : ℕ) (v : DecodeStrings mode count kinds small overflow storage before (Rows n) after) where
+  ok : Accepted mode count small overflow before n
+  ok = accept mode count small overflow storage before n (sym (v .says))
 
   abbrev row : ℕ → StringRow
-  row = rowOf kinds small overflow (length storage)
+  row = rowOf mode kinds small overflow (length storage)
 
   abbrev words : ℕ → List ℕ
-  words = wordsOf kinds small overflow (length storage)
+  words = wordsOf mode kinds small overflow (length storage)
 
-  is : after ≡ decodedRows kinds small overflow (length storage) n before
+  is : after ≡ decodedRows mode kinds small overflow (length storage) n before
   is = v .leaves ∙ rw (← ok .all)
 
   -- as many as the lesser of the count and the small entries lent
@@ -120,4 +129,4 @@ module _ (count : ℕ) (kinds small overflow storage before after : List ℕ) (n
   -- and string_bytes then hands back the bytes that row i says, for a valid row and for an invalid one
   pub decoded-bytes : (i : ℕ) → i < n → stringBytes storage after i ≡ take (row i .bytes) (drop (row i .start) storage)
   decoded-bytes i h =
-      bytes-at storage after i (row i) (rw (decoded-behind .long) (omega (arith, ok .room))) (decoded-row i h) (row-within kinds small overflow (length storage) i)
+      bytes-at storage after i (row i) (rw (decoded-behind .long) (omega (arith, ok .room))) (decoded-row i h) (row-within mode kinds small overflow (length storage) i)

@@ -1,3 +1,5 @@
 pub mod Unique
 pub mod Left
 pub mod Within
+pub mod Before
+pub mod Modes

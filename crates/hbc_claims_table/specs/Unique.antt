@@ -19,6 +19,6 @@ pub record Unique : Type 0 where
   pub put_words : Words of-put-words.Learnt (λ s. now (s .0))
   pub read_u32_table : Both of-read-u32-table.Learnt (λ s. now (s .1 .1 .1 .0))
   pub read_pair_table : Both of-read-pair-table.Learnt (λ s. now (s .1 .1 .1 .0))
-  pub decode_strings : Both of-decode-strings.Learnt (λ s. now (s .1 .1 .1 .1 .1 .0))
+  pub decode_strings : Both of-decode-strings.Learnt (λ s. now (s .1 .1 .1 .1 .1 .1 .0))
   pub string_span : One of-string-span.Learnt
   pub string_bytes : OnePart of-string-bytes.Learnt

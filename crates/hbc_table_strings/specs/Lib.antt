@@ -1,4 +1,6 @@
 pub mod Kinds
+pub mod Hermes
 pub mod Entries
 pub mod Row
 pub mod Strings
+pub mod Private

@@ -6,8 +6,9 @@ use lib.ListN.{getD}
 use lib.Dec.{ltb, leb}
 use Rattle.hbc_rows.specs.Rows.{entryAt}
 use Rattle.hbc_table_strings.specs.declared.row.StringRow.{StringRow}
-use Rattle.hbc_table_strings.specs.Kinds.{kindOf}
-use Rattle.hbc_table_strings.specs.Entries.{utf16, pairsTaken, entryOf, bytesOf}
+use Rattle.hbc_table_strings.specs.declared.Mode.{Mode}
+use Rattle.hbc_table_strings.specs.Hermes.{kindIn}
+use Rattle.hbc_table_strings.specs.Entries.{utf16, pairOf, entryOf, bytesOf}
 
 -- the words of a row in their order, and how many they are
 abbrev pub stringWords : StringRow → List ℕ
@@ -33,9 +34,9 @@ rowFor start bytes marks storage =
 
 -- marks: 1 UTF-16, 2 identifier
 unfoldable pub rowWith : ℕ → ℕ → List ℕ → ℕ → ℕ → StringRow
-rowWith raw kind overflow taken storage =
-    rowFor (entryOf raw overflow taken .start) (bytesOf raw (entryOf raw overflow taken .units)) (utf16 raw + 2 * kind) storage
+rowWith raw kind overflow p storage =
+    rowFor (entryOf raw overflow p .start) (bytesOf raw (entryOf raw overflow p .units)) (utf16 raw + 2 * kind) storage
 
 -- the row of string i
-unfoldable pub rowOf : List ℕ → List ℕ → List ℕ → ℕ → ℕ → StringRow
-rowOf kinds small overflow storage i = rowWith (entryAt small i) (kindOf kinds i) overflow (pairsTaken small i) storage
+unfoldable pub rowOf : Mode → List ℕ → List ℕ → List ℕ → ℕ → ℕ → StringRow
+rowOf mode kinds small overflow storage i = rowWith (entryAt small i) (kindIn mode kinds i) overflow (pairOf mode small i) storage

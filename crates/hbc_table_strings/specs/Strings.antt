@@ -10,7 +10,8 @@ use Rattle.hbc_io.specs.Lends.{below, choose, Lends}
 use Rattle.hbc_rows.specs.Rows.{entryAt, rows, putRows}
 use Rattle.hbc_table_strings.specs.declared.Decoded.{Decoded}
 use Rattle.hbc_table_strings.specs.declared.Decoded.the-variants.{Rows, Refused}
-use Rattle.hbc_table_strings.specs.Entries.{pairsTaken, lacksPair}
+use Rattle.hbc_table_strings.specs.declared.Mode.{Mode}
+use Rattle.hbc_table_strings.specs.Entries.{pairOf, lacksPair}
 use Rattle.hbc_table_strings.specs.Row.{stringWords, stringWidth, rowOf}
 
 -- how many rows, or the refusal
@@ -19,32 +20,32 @@ saysDecoded (Rows n) = gives n
 saysDecoded (Refused r) = refuses r
 
 -- the first n strings in order: 8 at the first whose pair is not there
-unfoldable pub scan : List ℕ → ℕ → ℕ → Answer ℕ
-scan small pairs zero = gives 0
-scan small pairs (suc i) =
-    andThen (scan small pairs i) (λ _. choose (lacksPair (entryAt small i) (pairsTaken small i) pairs) (refusedAt 8 i) (gives (suc i)))
+unfoldable pub scan : Mode → List ℕ → ℕ → ℕ → Answer ℕ
+scan mode small pairs zero = gives 0
+scan mode small pairs (suc i) =
+    andThen (scan mode small pairs i) (λ _. choose (lacksPair (entryAt small i) (pairOf mode small i) pairs) (refusedAt 8 i) (gives (suc i)))
 
 -- strings decoded: the lesser of the count and the small entries lent
 unfoldable pub lesser : ℕ → ℕ → ℕ
 lesser count lent = cond (ltb count lent) count lent
 
 -- 1, 4, then the data in order
-unfoldable pub decodeAnswer : ℕ → List ℕ → List ℕ → List ℕ → List ℕ → Answer ℕ
-decodeAnswer count small overflow storage table =
+unfoldable pub decodeAnswer : Mode → ℕ → List ℕ → List ℕ → List ℕ → List ℕ → Answer ℕ
+decodeAnswer mode count small overflow storage table =
     below limit (length storage) (refusedAt 1 0)
     (below (rows stringWidth table) (lesser count (length small)) (refusedAt 4 0)
-    (scan small (length overflow / 2) (lesser count (length small))))
+    (scan mode small (length overflow / 2) (lesser count (length small))))
 
 -- the words of string i's row
-abbrev pub wordsOf : List ℕ → List ℕ → List ℕ → ℕ → ℕ → List ℕ
-wordsOf kinds small overflow storage i = stringWords (rowOf kinds small overflow storage i)
+abbrev pub wordsOf : Mode → List ℕ → List ℕ → List ℕ → ℕ → ℕ → List ℕ
+wordsOf mode kinds small overflow storage i = stringWords (rowOf mode kinds small overflow storage i)
 
 -- a table with the rows of the first n strings in front
-abbrev pub decodedRows : List ℕ → List ℕ → List ℕ → ℕ → ℕ → List ℕ → List ℕ
-decodedRows kinds small overflow storage n table = putRows stringWidth (wordsOf kinds small overflow storage) 0 n table
+abbrev pub decodedRows : Mode → List ℕ → List ℕ → List ℕ → ℕ → ℕ → List ℕ → List ℕ
+decodedRows mode kinds small overflow storage n table = putRows stringWidth (wordsOf mode kinds small overflow storage) 0 n table
 
 -- the promise: the answer, and the rows
-abbrev pub DecodeStrings : ℕ → List ℕ → List ℕ → List ℕ → List ℕ → List ℕ → Decoded → List ℕ → Type 0
-DecodeStrings count kinds small overflow storage before =
-    Lends saysDecoded (decodeAnswer count small overflow storage before)
-    (decodedRows kinds small overflow (length storage) (lesser count (length small)) before) before
+abbrev pub DecodeStrings : Mode → ℕ → List ℕ → List ℕ → List ℕ → List ℕ → List ℕ → Decoded → List ℕ → Type 0
+DecodeStrings mode count kinds small overflow storage before =
+    Lends saysDecoded (decodeAnswer mode count small overflow storage before)
+    (decodedRows mode kinds small overflow (length storage) (lesser count (length small)) before) before

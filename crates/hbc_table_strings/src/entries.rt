@@ -2,6 +2,7 @@
 ghost use mathlib.Core.Path.{_≡_};
 ghost use Prim.Native.Nat.{_<_, _^_};
 ghost use Rattle.hbc_table_strings.specs.Entries.{utf16, offsetOf, unitsOf, longOne, pairTaken, lacksPair, pairAt, entryOf, bytesOf};
+use crate::Mode;
 use hbc_rows::field_of;
 
 // Where a string starts in the storage, and how many units it has.
@@ -39,18 +40,22 @@ pub(crate) fn long_one(raw: u32) -> usize
     0
 }
 
-// Which pair a long entry takes, so many being taken before it: the next. What the entry holds beside its length is not looked at.
-fn pair_taken(raw: u32, taken: usize) -> usize
-    ensures { λ r. ⌜ r ≡ pairTaken raw taken ⌝ }
+// Which pair a long entry takes, so many being taken before it: the next, or in Hermes mode the one whose number is in its offset field.
+fn pair_taken(mode: Mode, raw: u32, taken: usize) -> usize
+    ensures { λ r. ⌜ r ≡ pairTaken mode raw taken ⌝ }
 {
-    taken
+    match mode {
+        Mode::InOrder => taken,
+        Mode::Hermes => offset_of(raw) as usize,
+    }
 }
 
-pub(crate) fn lacks_pair(raw: u32, taken: usize, pairs: usize) -> bool
-    ensures { λ r. ⌜ r ≡ lacksPair raw taken pairs ⌝ }
+// Only a long entry, as few are, asks for the mode.
+pub(crate) fn lacks_pair(mode: Mode, raw: u32, taken: usize, pairs: usize) -> bool
+    ensures { λ r. ⌜ r ≡ lacksPair raw (pairTaken mode raw taken) pairs ⌝ }
 {
     if long_one(raw) == 1 {
-        return pairs <= pair_taken(raw, taken);
+        return pairs <= pair_taken(mode, raw, taken);
     }
     false
 }
@@ -67,11 +72,11 @@ fn pair_at(overflow: &[u32], p: usize) -> Entry
     Entry { start: 0, units: 0 }
 }
 
-pub(crate) fn entry_of(raw: u32, overflow: &[u32], taken: usize) -> Entry
-    ensures { λ r. ⌜ r ≡ entryOf raw (now (overflow .entry)) taken ⌝ }
+pub(crate) fn entry_of(mode: Mode, raw: u32, overflow: &[u32], taken: usize) -> Entry
+    ensures { λ r. ⌜ r ≡ entryOf raw (now (overflow .entry)) (pairTaken mode raw taken) ⌝ }
 {
     if long_one(raw) == 1 {
-        return pair_at(overflow, pair_taken(raw, taken));
+        return pair_at(overflow, pair_taken(mode, raw, taken));
     }
     Entry {
         start: offset_of(raw),

@@ -1,7 +1,9 @@
 // Which strings are identifiers: kind runs, one word each, bit 31 the kind, the low 31 bits how many strings.
 ghost use mathlib.Core.Path.{_≡_};
-ghost use Prim.Native.Nat.{_+_, _≤_, _<_, _^_};
-ghost use Rattle.hbc_table_strings.specs.Kinds.{runKind, holding, movedOn, spent};
+ghost use Prim.Native.Nat.{_<_, _^_};
+ghost use Rattle.hbc_table_strings.specs.Kinds.{runKind, holding, spent};
+ghost use Rattle.hbc_table_strings.specs.Private.{nextFull, movedIn};
+use crate::Mode;
 use hbc_rows::field_of;
 use hbc_rows::word_of;
 
@@ -20,15 +22,37 @@ pub(crate) fn holding(kinds: &[u32], run: usize) -> Held
     }
 }
 
-// How a string gets its kind: before it, where nothing remains, the next run is held, be it empty or not.
-pub(crate) fn moved_on(kinds: &[u32], h: Held) -> Held
-    requires { ⌜ h .run < 2 ^ 32 ⌝ }
-    ensures { λ r. ⌜ (r ≡ movedOn (now (kinds .entry)) h) × (r .run ≤ h .run + 1) ⌝ }
+// The first run from `run` on that is not empty, or the one behind the last.
+fn next_full(kinds: &[u32], run: usize) -> usize
+    ensures { λ r. ⌜ r ≡ nextFull (now (kinds .entry)) run ⌝ }
 {
-    if h.left == 0 {
-        return holding(kinds, h.run + 1);
+    let mut r = run;
+    while r < kinds.len() {
+        if field_of(word_of(kinds, r), 0, 31) != 0 {
+            return r;
+        }
+        r += 1;
     }
-    h
+    r
+}
+
+// How a string gets its kind: before it, where nothing remains, the next run is held, be it empty or not; in Hermes the next that is not empty.
+pub(crate) fn moved_on(mode: Mode, kinds: &[u32], h: Held) -> Held
+    requires { ⌜ h .run < 2 ^ 62 ⌝ }
+    ensures { λ r. ⌜ r ≡ movedIn mode (now (kinds .entry)) h ⌝ }
+{
+    if h.left != 0 {
+        return h;
+    }
+    match mode {
+        Mode::InOrder => holding(kinds, h.run + 1),
+        Mode::Hermes => {
+            if h.run < kinds.len() {
+                return holding(kinds, next_full(kinds, h.run + 1));
+            }
+            h
+        }
+    }
 }
 
 pub(crate) fn spent(h: Held) -> Held

@@ -1,5 +1,5 @@
 // String rows, after table.rs: kind runs, small entries, overflow pairs and the storage make a row of four words for each string.
-// How a string comes by its kind is `moved_on` (kinds.rt) alone, and which pair a long one takes `pair_taken` (entries.rt) alone.
+// What a mode decides: how a string comes by its kind (`moved_on`, kinds.rt), and which pair a long one takes (`pair_taken`, entries.rt).
 ghost use mathlib.Core.Path.{_≡_};
 ghost use Prim.Native.Nat.{_≤_, _<_, _^_};
 ghost use Rattle.hbc_table_strings.specs.Strings.{saysDecoded, scan, decodedRows, lesser, DecodeStrings};
@@ -32,6 +32,12 @@ pub const STRING_INVALID: usize = 2;
 
 pub const STRING_MARKS: usize = 3;
 
+// Pairs and runs one after the other, as the published Rust has them, or as Hermes itself chooses them.
+pub enum Mode {
+    InOrder,
+    Hermes,
+}
+
 pub enum Decoded {
     // so many rows were written
     Rows(usize),
@@ -39,15 +45,15 @@ pub enum Decoded {
 }
 
 // The first pass: the first of the `n` strings whose pair is not there.
-fn check(n: usize, small: &[u32], pairs: usize) -> Decoded
+fn check(mode: Mode, n: usize, small: &[u32], pairs: usize) -> Decoded
     requires { ⌜ n < 2 ^ 32 ⌝ }
-    ensures { λ r. ⌜ saysDecoded r ≡ scan (now (small .entry)) pairs n ⌝ }
+    ensures { λ r. ⌜ saysDecoded r ≡ scan mode (now (small .entry)) pairs n ⌝ }
 {
     let mut needed: usize = 0;
     let mut i: usize = 0;
     while i < n {
         let raw = word_of(small, i);
-        if lacks_pair(raw, needed, pairs) {
+        if lacks_pair(mode, raw, needed, pairs) {
             return Decoded::Refused(refuse(8, i as u32));
         }
         needed += long_one(raw);
@@ -57,18 +63,26 @@ fn check(n: usize, small: &[u32], pairs: usize) -> Decoded
 }
 
 // The second pass: row by row, and nothing can be refused.
-fn write(n: usize, kinds: &[u32], small: &[u32], overflow: &[u32], storage: usize, rows: &mut [u32])
+fn write(
+    mode: Mode,
+    n: usize,
+    kinds: &[u32],
+    small: &[u32],
+    overflow: &[u32],
+    storage: usize,
+    rows: &mut [u32],
+)
     requires { ⌜ (n < 2 ^ 32) × (storage ≤ 2 ^ 30) ⌝ }
-    ensures { λ _. ⌜ now (rows .exit) ≡ decodedRows (now (kinds .entry)) (now (small .entry)) (now (overflow .entry)) storage n (now (rows .entry)) ⌝ }
+    ensures { λ _. ⌜ now (rows .exit) ≡ decodedRows mode (now (kinds .entry)) (now (small .entry)) (now (overflow .entry)) storage n (now (rows .entry)) ⌝ }
 {
     let mut held = holding(kinds, 0);
     let mut taken: usize = 0;
     let mut i: usize = 0;
     while i < n {
         let raw = word_of(small, i);
-        let h = moved_on(kinds, held);
+        let h = moved_on(mode, kinds, held);
         let kind = run_kind(kinds, h.run);
-        put_string(rows, i, row_with(raw, kind, overflow, taken, storage));
+        put_string(rows, i, row_with(mode, raw, kind, overflow, taken, storage));
         held = spent(h);
         taken += long_one(raw);
         i += 1;
@@ -86,6 +100,7 @@ fn lesser(count: u32, lent: usize) -> usize
 
 // A row (row.rt) for each string. Runs, pairs and rows are lent as words.
 pub fn decode_strings(
+    mode: Mode,
     count: u32,
     kinds: &[u32],
     small: &[u32],
@@ -93,7 +108,7 @@ pub fn decode_strings(
     storage: &[u8],
     rows: &mut [u32],
 ) -> Decoded
-    ensures { λ r. ⌜ DecodeStrings count (now (kinds .entry)) (now (small .entry)) (now (overflow .entry)) (now (storage .entry))
+    ensures { λ r. ⌜ DecodeStrings mode count (now (kinds .entry)) (now (small .entry)) (now (overflow .entry)) (now (storage .entry))
         (now (rows .entry)) r (now (rows .exit)) ⌝ }
 {
     let n = lesser(count, small.len());
@@ -103,9 +118,9 @@ pub fn decode_strings(
     if rows.len() / STRING_WIDTH < n {
         return Decoded::Refused(refuse(4, 0));
     }
-    let found = check(n, small, overflow.len() / 2);
+    let found = check(mode, n, small, overflow.len() / 2);
     if let Decoded::Rows(_) = found {
-        write(n, kinds, small, overflow, storage.len(), rows);
+        write(mode, n, kinds, small, overflow, storage.len(), rows);
     }
     found
 }

@@ -2,7 +2,9 @@
 ghost use mathlib.Core.Path.{_≡_};
 ghost use Prim.Native.Nat.{_≤_, _<_, _^_};
 ghost use Rattle.hbc_rows.specs.Rows.{putRow};
+ghost use Rattle.hbc_table_strings.specs.Entries.{pairTaken};
 ghost use Rattle.hbc_table_strings.specs.Row.{stringWidth, stringWords, rowFor, rowWith};
+use crate::Mode;
 use crate::entries::bytes_of;
 use crate::entries::entry_of;
 use crate::entries::utf16;
@@ -47,6 +49,7 @@ fn row_for(start: u32, bytes: usize, marks: u32, storage: usize) -> StringRow
 }
 
 pub(crate) fn row_with(
+    mode: Mode,
     raw: u32,
     kind: u32,
     overflow: &[u32],
@@ -54,9 +57,9 @@ pub(crate) fn row_with(
     storage: usize,
 ) -> StringRow
     requires { ⌜ (storage ≤ 2 ^ 30) × (kind < 2) ⌝ }
-    ensures { λ r. ⌜ r ≡ rowWith raw kind (now (overflow .entry)) taken storage ⌝ }
+    ensures { λ r. ⌜ r ≡ rowWith raw kind (now (overflow .entry)) (pairTaken mode raw taken) storage ⌝ }
 {
-    let e = entry_of(raw, overflow, taken);
+    let e = entry_of(mode, raw, overflow, taken);
     let bytes = bytes_of(raw, e.units);
     let marks = utf16(raw) + 2 * kind;
     row_for(e.start, bytes, marks, storage)

@@ -12,6 +12,7 @@ use hbc_record::field_of;
 use hbc_record::head;
 use hbc_record::past;
 use hbc_record::report;
+use hbc_table_strings::Mode;
 
 // Whether a call does what is recorded. Its input is read here once, for all judges.
 fn judge(record: &[u8], n: Asked) -> bool {
@@ -20,7 +21,8 @@ fn judge(record: &[u8], n: Asked) -> bool {
     match call {
         19 => table::read_u32_table(record, s, n),
         20 => table::read_pair_table(record, s, n),
-        21 => table::decode_strings(record, s, n),
+        21 => table::decode_strings(record, s, n, Mode::InOrder),
+        31 => table::decode_strings(record, s, n, Mode::Hermes),
         22 => table::string_bytes(record, s, n),
         23 => buffer::read_literal(record, s, n),
         24 => buffer::read_series(record, s, n),

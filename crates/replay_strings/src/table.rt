@@ -7,6 +7,7 @@ use hbc_record::bytes_are;
 use hbc_record::given;
 use hbc_record::leaves;
 use hbc_record::lent;
+use hbc_table_strings::Mode;
 
 // Asked: cursor, words lent; count. The answer: code, cursor.
 pub(crate) fn read_u32_table(record: &[u8], s: &[u8], n: Asked) -> bool {
@@ -24,7 +25,7 @@ pub(crate) fn read_pair_table(record: &[u8], s: &[u8], n: Asked) -> bool {
 }
 
 // Asked: words lent; count. Given: kind runs, small entries, overflow words.
-pub(crate) fn decode_strings(record: &[u8], s: &[u8], n: Asked) -> bool {
+pub(crate) fn decode_strings(record: &[u8], s: &[u8], n: Asked, mode: Mode) -> bool {
     let mut runs = [0u32; 64];
     let kinds = given(record, 4, &mut runs);
     let mut entries = [0u32; 64];
@@ -33,7 +34,7 @@ pub(crate) fn decode_strings(record: &[u8], s: &[u8], n: Asked) -> bool {
     let overflow = given(record, 6, &mut pairs);
     let mut rows = [FILL; 128];
     let t = lent(&mut rows, n.a);
-    let code = hbc_c_table::decode_strings(n.p, kinds, small, overflow, s, t);
+    let code = hbc_c_table::decode_strings(mode, n.p, kinds, small, overflow, s, t);
     leaves(record, code, 0, &rows)
 }
 

@@ -9,7 +9,7 @@ use published::file::structure::{StringKindEntry, StringKindType, StringTableEnt
 use published::io::ByteReader;
 
 use crate::table::{Bench, SIZES};
-use crate::whole::{heading, Whole};
+use crate::whole::{heading, sides, Whole};
 
 /// Words in a row.
 const ROW: usize = StringRow::WORDS;
@@ -32,12 +32,32 @@ pub fn rows(bench: &Bench) {
         "is not the same: the Rust makes a text of each, ours a row that says where it is; at last both make all texts.",
         "string",
     );
-    for count in [10_000, 100_000, 1_000_000, 10_000_000] {
+    for count in COUNTS {
         Strings::new(count).decode(bench);
     }
     Strings::new(1_000_000).made_anew(bench);
     Strings::new(1_000_000).with_texts(bench);
+    heading(
+        "The same strings in Hermes mode: the fields have the numbers of the pairs in order, and no run is empty, so that both",
+        "modes and the Rust read the same.",
+        "string",
+    );
+    for count in COUNTS {
+        Strings::new(count).decode_hermes(bench);
+    }
+    sides(
+        "Hermes mode against our own old one, on the same strings: a ratio of 0.8 is Hermes mode in 1.25 times the old",
+        "one's time.",
+        "string",
+        ["Hermes", "old", "old/Hermes"],
+    );
+    for count in COUNTS {
+        Strings::new(count).both_modes(bench);
+    }
 }
+
+/// How many strings there are.
+const COUNTS: [usize; 4] = [10_000, 100_000, 1_000_000, 10_000_000];
 
 fn reads(bench: &Bench, bytes: &[u8], name: &str, width: usize) {
     let items = bytes.len() / (4 * width);
@@ -75,6 +95,21 @@ fn reads(bench: &Bench, bytes: &[u8], name: &str, width: usize) {
     size.row(bench, &format!("{name} table, made anew"), made, rust);
 }
 
+/// A call that decodes strings, in either mode.
+pub type Decode = unsafe extern "C" fn(
+    u32,
+    *const u32,
+    usize,
+    *const u32,
+    usize,
+    *const u32,
+    usize,
+    *const u8,
+    usize,
+    *mut u32,
+    usize,
+) -> u64;
+
 /// What a file says of its strings, in the form that each side takes.
 struct Strings {
     small: Vec<u32>,
@@ -86,7 +121,8 @@ struct Strings {
 }
 
 impl Strings {
-    /// Strings of letters in a storage of at most 8 MiB, which is as far as a small entry reaches.
+    /// Strings of letters in a storage of at most 8 MiB, which is as far as a small entry reaches. Both modes read them
+    /// alike.
     fn new(count: usize) -> Strings {
         let mut random = Random::new(1);
         let bytes = (count * 20).min(8 << 20);
@@ -115,7 +151,8 @@ impl Strings {
                 place
             };
             if random.below(64) == 0 {
-                strings.small.push(utf16 as u32 | 0xFF00_0000);
+                let number = strings.pairs.len() as u32;
+                strings.small.push(utf16 as u32 | number << 1 | 0xFF00_0000);
                 strings.overflow.extend([offset, length]);
                 strings.pairs.push((offset, length));
             } else {
@@ -125,7 +162,7 @@ impl Strings {
             }
         }
         for _ in 0..count / 100 + 2 {
-            let (identifier, count) = (random.below(2) == 1, random.below(200) as u32);
+            let (identifier, count) = (random.below(2) == 1, random.below(200).max(1) as u32);
             strings.kinds.push((identifier as u32) << 31 | count);
             let kind = match identifier {
                 true => StringKindType::Identifier,
@@ -173,8 +210,16 @@ impl Strings {
     }
 
     fn ours(&self, rows: &mut [u32]) -> (u64, u64) {
+        self.decoded(hbc_decode_strings, rows)
+    }
+
+    fn hermes(&self, rows: &mut [u32]) -> (u64, u64) {
+        self.decoded(hbc_decode_strings_hermes, rows)
+    }
+
+    fn decoded(&self, call: Decode, rows: &mut [u32]) -> (u64, u64) {
         let decoded = unsafe {
-            hbc_decode_strings(
+            call(
                 self.count() as u32,
                 self.kinds.as_ptr(),
                 self.kinds.len(),
@@ -200,6 +245,23 @@ impl Strings {
         let mut rows = vec![0; self.count() * ROW];
         let ours = || self.ours(&mut rows);
         self.size().row(bench, "decode", ours, || self.published());
+    }
+
+    fn decode_hermes(&self, bench: &Bench) {
+        let mut rows = vec![0; self.count() * ROW];
+        let hermes = || self.hermes(&mut rows);
+        self.size()
+            .row(bench, "decode, Hermes mode", hermes, || self.published());
+    }
+
+    fn both_modes(&self, bench: &Bench) {
+        let [mut hermes, mut in_order] = [(); 2].map(|()| vec![0; self.count() * ROW]);
+        self.hermes(&mut hermes);
+        self.ours(&mut in_order);
+        assert!(hermes == in_order, "the modes read different rows");
+        let (one, other) = (|| self.hermes(&mut hermes), || self.ours(&mut in_order));
+        self.size()
+            .row(bench, "decode, Hermes against old mode", one, other);
     }
 
     fn made_anew(&self, bench: &Bench) {

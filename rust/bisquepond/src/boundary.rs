@@ -182,29 +182,40 @@ tables! {
     read_pair_table = hbc_read_pair_table;
 }
 
-pub(crate) fn decode_strings(
-    count: u32,
-    [kinds, small, overflow]: [&[u32]; 3],
-    storage: &[u8],
-    rows: &mut [StringRow],
-) -> Result<u32> {
-    let rows = words_of_mut(rows);
-    let code = unsafe {
-        sys::hbc_decode_strings(
-            count,
-            kinds.as_ptr(),
-            kinds.len(),
-            small.as_ptr(),
-            small.len(),
-            overflow.as_ptr(),
-            overflow.len(),
-            storage.as_ptr(),
-            storage.len(),
-            rows.as_mut_ptr(),
-            rows.len(),
-        )
+macro_rules! strings {
+    ($($name:ident = $call:ident, $place:ident;)*) => {
+        $(
+            pub(crate) fn $name(
+                count: u32,
+                [kinds, small, overflow]: [&[u32]; 3],
+                storage: &[u8],
+                rows: &mut [StringRow],
+            ) -> Result<u32> {
+                let rows = words_of_mut(rows);
+                let code = unsafe {
+                    sys::$call(
+                        count,
+                        kinds.as_ptr(),
+                        kinds.len(),
+                        small.as_ptr(),
+                        small.len(),
+                        overflow.as_ptr(),
+                        overflow.len(),
+                        storage.as_ptr(),
+                        storage.len(),
+                        rows.as_mut_ptr(),
+                        rows.len(),
+                    )
+                };
+                Refusal::check(code, Place::$place)
+            }
+        )*
     };
-    Refusal::check(code, Place::String)
+}
+
+strings! {
+    decode_strings = hbc_decode_strings, String;
+    decode_strings_hermes = hbc_decode_strings_hermes, HermesString;
 }
 
 pub(crate) fn string_bytes<'a>(storage: &'a [u8], rows: &[StringRow], index: usize) -> &'a [u8] {

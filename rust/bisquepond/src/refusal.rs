@@ -45,6 +45,8 @@ pub(crate) enum Place {
     /// A row that is to be written.
     Row,
     String,
+    /// A string that names its overflow entry.
+    HermesString,
     Entries,
     Values,
     Bytes,
@@ -138,8 +140,8 @@ reasons! {
     ZeroAlignment = 6, "an alignment of 0";
     /// A series begins at or past the end, and is not empty.
     SeriesPastEnd = 7, "the series begins at or past the end of its buffer";
-    /// A string needs an overflow pair, and none is left.
-    NoOverflowPair = 8, "a string needs an overflow entry and none is left";
+    /// A string needs an overflow pair, and none is left; in Hermes mode, none has the number that the string asks for.
+    NoOverflowPair = 8, "a string needs an overflow entry that is not there";
     /// A zero-ended string has no zero.
     NoZero = 9, "a zero-ended string has no zero";
     /// A span is reversed, or goes past the end.
@@ -242,6 +244,10 @@ impl fmt::Display for Refusal {
             (Reason::NoOverflowPair, Place::String) => {
                 write!(f, "string {place} needs an overflow entry and none is left")
             }
+            (Reason::NoOverflowPair, Place::HermesString) => write!(
+                f,
+                "string {place} names an overflow entry whose number is past those lent"
+            ),
             (Reason::AnotherLength, Place::Bytes) => write!(
                 f,
                 "the table was read from a file of {place} bytes, and this one has another length: read it again"
@@ -297,6 +303,15 @@ mod tests {
             let told = (row.contains("buffer"), other.contains("buffer"));
             assert_eq!(told, (true, false), "{reason:?}");
         }
+    }
+
+    /// In order none is left; in Hermes mode the number is past those lent.
+    #[test]
+    fn a_missing_pair_is_told_by_mode() {
+        let said = |of| Refusal::of(Reason::NoOverflowPair, 7, of).to_string();
+        let [in_order, hermes] = [Place::String, Place::HermesString].map(said);
+        assert!(in_order.contains(": string 7 ") && hermes.contains(": string 7 "));
+        assert!(in_order.contains("none is left") && hermes.contains("past those lent"));
     }
 
     #[test]

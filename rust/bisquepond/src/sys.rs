@@ -53,6 +53,7 @@ unsafe extern "C" {
     pub fn hbc_read_u32_table(s: *const u8, s_len: usize, at: *mut usize, count: u32, table: *mut u32, table_len: usize) -> u64;
     pub fn hbc_read_pair_table(s: *const u8, s_len: usize, at: *mut usize, count: u32, table: *mut u32, table_len: usize) -> u64;
     pub fn hbc_decode_strings(count: u32, kinds: *const u32, kinds_len: usize, small: *const u32, small_len: usize, overflow: *const u32, overflow_len: usize, storage: *const u8, storage_len: usize, rows: *mut u32, rows_len: usize) -> u64;
+    pub fn hbc_decode_strings_hermes(count: u32, kinds: *const u32, kinds_len: usize, small: *const u32, small_len: usize, overflow: *const u32, overflow_len: usize, storage: *const u8, storage_len: usize, rows: *mut u32, rows_len: usize) -> u64;
     pub fn hbc_string_bytes(storage: *const u8, storage_len: usize, rows: *const u32, rows_len: usize, index: usize, start: *mut usize, len: *mut usize);
 
     pub fn hbc_read_literal(s: *const u8, s_len: usize, at: *mut usize, tag: u8, kind: *mut u32, number: *mut f64, word: *mut u32) -> u64;

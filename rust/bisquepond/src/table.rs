@@ -107,6 +107,10 @@ impl ByteReader<'_> {
 
 /// What strings are decoded from. Each part is as the table reads of [`ByteReader`] give it.
 ///
+/// There are two modes. [`decode`](Self::decode) takes overflow pairs in order, as hermes-decomp does;
+/// [`decode_hermes`](Self::decode_hermes) reads as Hermes itself does, and is right also for a file whose linker reused
+/// pairs or left empty kind runs.
+///
 /// ```
 /// use bisquepond::table::Strings;
 ///
@@ -125,7 +129,8 @@ impl ByteReader<'_> {
 pub struct Strings<'a> {
     /// The kind runs: bit 31 is identifier, the low 31 bits the length.
     pub kinds: &'a [u32],
-    /// The small entries: bit 0 UTF-16, bits 1 to 23 offset, bits 24 to 31 length. Length 255 takes the next pair.
+    /// The small entries: bit 0 UTF-16, bits 1 to 23 offset, bits 24 to 31 length. Length 255 takes a pair: the next one,
+    /// or in Hermes mode the one whose number is in the offset's bits.
     pub small: &'a [u32],
     /// The overflow pairs, offset and length.
     pub overflow: &'a [[u32; 2]],
@@ -193,6 +198,75 @@ impl Strings<'_> {
     pub fn decode(&self, count: u32) -> Result<Table<StringRow>> {
         let mut rows = Table::zeros(self.small.len().min(count as usize));
         self.decode_into(count, rows.lent())?;
+        Ok(rows)
+    }
+
+    /// As [`decode_into`](Self::decode_into), in Hermes mode: see [`decode_hermes`](Self::decode_hermes).
+    ///
+    /// # Errors
+    ///
+    /// `TooLong` and `TooFewRows` as there; `NoOverflowPair` if the number in an entry of length 255 is not below the
+    /// number of pairs, with the first such string as place.
+    ///
+    /// ```
+    /// use bisquepond::table::{StringRow, Strings};
+    ///
+    /// // Pair 1, then pair 2, which is not there: no row is written.
+    /// let small = &[1 << 1 | 255 << 24, 2 << 1 | 255 << 24];
+    /// let strings = Strings { kinds: &[2], small, overflow: &[[0, 1], [1, 3]], storage: b"abcd" };
+    /// let mut rows = [StringRow::default(); 2];
+    /// let refusal = strings.decode_hermes_into(2, &mut rows).unwrap_err();
+    /// assert_eq!((refusal.number, refusal.place, rows), (8, 1, [StringRow::default(); 2]));
+    /// let decoded = strings.decode_hermes_into(1, &mut rows)?;
+    /// assert_eq!(decoded[0].bytes(strings.storage), b"bcd");
+    /// # Ok::<(), bisquepond::Refusal>(())
+    /// ```
+    pub fn decode_hermes_into<'t>(
+        &self,
+        count: u32,
+        rows: &'t mut [StringRow],
+    ) -> Result<&'t [StringRow]> {
+        let words = [self.kinds, self.small, self.overflow.as_flattened()];
+        let decoded = boundary::decode_strings_hermes(count, words, self.storage, rows)?;
+        Ok(&rows[..decoded as usize])
+    }
+
+    /// Decodes in Hermes mode, into a table of its own: a string of length 255 takes the pair whose number is in its
+    /// offset field, so that pairs may be shared and in any order; and the kind run of string i is the first whose
+    /// lengths, added up, exceed i, so that an empty run names no string. Past the last run a string is no identifier.
+    ///
+    /// Where each such field has the number of the next pair, and no run is empty, the rows are those of
+    /// [`decode`](Self::decode).
+    ///
+    /// # Errors
+    ///
+    /// Those of [`decode_hermes_into`](Self::decode_hermes_into), but never `TooFewRows`.
+    ///
+    /// ```
+    /// use bisquepond::table::Strings;
+    ///
+    /// // Two names that share pair 1, a string of pair 0, and an empty run before the string's.
+    /// let long = |pair: u32| pair << 1 | 255 << 24;
+    /// let strings = Strings {
+    ///     kinds: &[1 << 31 | 2, 1 << 31, 1],
+    ///     small: &[long(1), long(1), long(0)],
+    ///     overflow: &[[0, 2], [2, 3]],
+    ///     storage: b"hiyou",
+    /// };
+    /// let rows = strings.decode_hermes(3)?;
+    /// let texts: Vec<&[u8]> = rows.iter().map(|row| row.bytes(strings.storage)).collect();
+    /// assert_eq!(texts, [&b"you"[..], b"you", b"hi"]);
+    /// assert!(rows[1].is_identifier() && !rows[2].is_identifier());
+    ///
+    /// // In order, the first string takes pair 0, the second pair 1, and the third finds none.
+    /// assert_eq!(strings.decode(2)?[0].bytes(strings.storage), b"hi");
+    /// let refusal = strings.decode(3).unwrap_err();
+    /// assert_eq!((refusal.number, refusal.place), (8, 2));
+    /// # Ok::<(), bisquepond::Refusal>(())
+    /// ```
+    pub fn decode_hermes(&self, count: u32) -> Result<Table<StringRow>> {
+        let mut rows = Table::zeros(self.small.len().min(count as usize));
+        self.decode_hermes_into(count, rows.lent())?;
         Ok(rows)
     }
 }

@@ -263,6 +263,7 @@ fn refused_1_above_2_to_the_30() {
         storage: &long,
     };
     assert_eq!(refused(strings.decode(0)), (1, 0));
+    assert_eq!(refused(strings.decode_hermes(0)), (1, 0));
     let layout = Layout::Legacy16;
     let met = function::function_meets(&long, layout, 0, 0, 0..16);
     assert_eq!(refused(met), (1, 0));
@@ -390,6 +391,100 @@ fn refused_8_no_pair_is_left() {
     );
     let mut rows = [StringRow::default(); 1];
     assert_eq!(strings.decode_into(1, &mut rows).unwrap()[0].byte_len(), 1);
+}
+
+/// The pair that the field names: in any order, shared, left out; the last one that there is, and one past it.
+#[test]
+fn hermes_pairs_by_number() {
+    let long = |number: u32| number << 1 | 255 << 24;
+    let small = [long(2), long(0), 3 << 1 | 1 << 24, long(2), long(2) | 1];
+    let strings = Strings {
+        kinds: &[],
+        small: &small,
+        overflow: &[[0, 1], [0, 0], [1, 2]],
+        storage: b"abcdefgh",
+    };
+    let rows = strings.decode_hermes(9).unwrap();
+    let words: [[u32; 4]; 5] = [
+        [1, 2, 0, 0],
+        [0, 1, 0, 0],
+        [3, 1, 0, 0],
+        [1, 2, 0, 0],
+        [1, 4, 0, 1],
+    ];
+    assert_eq!(rows.words(), words.as_flattened());
+    assert_eq!(refused(strings.decode(5)), (8, 4));
+    for (number, pairs) in [(3, 3), ((1 << 23) - 1, 3), (0, 0)] {
+        let past = Strings {
+            small: &[1 << 24, long(number)],
+            overflow: &strings.overflow[..pairs],
+            ..strings
+        };
+        let refusal = past.decode_hermes(2).unwrap_err();
+        assert_eq!((refusal.number, refusal.place), (8, 1));
+        assert_eq!(
+            refusal.to_string(),
+            "refused 8 at 1: string 1 names an overflow entry whose number is past those lent"
+        );
+        assert_eq!(past.decode_hermes(1).unwrap().len(), 1);
+    }
+}
+
+/// An empty run names no string, wherever it stands; past the last run a string is plain.
+#[test]
+fn hermes_empty_runs() {
+    const IDENTIFIER: u32 = 1 << 31;
+    let marked = |kinds: &[u32]| {
+        let strings = Strings {
+            kinds,
+            small: &[1 << 24; 4],
+            overflow: &[],
+            storage: b"a",
+        };
+        let rows = strings.decode_hermes(4).unwrap();
+        [0, 1, 2, 3].map(|i| rows[i].is_identifier())
+    };
+    let runs = [IDENTIFIER + 2, 1];
+    assert_eq!(marked(&runs), [true, true, false, false]);
+    for place in 0..=2 {
+        for empty in [&[0][..], &[IDENTIFIER], &[0, IDENTIFIER, 0]] {
+            let with = [&runs[..place], empty, &runs[place..]].concat();
+            assert_eq!(marked(&with), marked(&runs), "{with:x?}");
+        }
+    }
+    assert_eq!(marked(&[]), [false; 4]);
+    assert_eq!(marked(&[IDENTIFIER; 9]), [false; 4]);
+    // P7, which the old mode reads as plain, identifier, plain.
+    assert_eq!(marked(&[1, IDENTIFIER, 1]), [false; 4]);
+    // Lengths that add up to more than 2^32.
+    let most = IDENTIFIER - 1;
+    assert_eq!(marked(&[0, u32::MAX, most, most]), [true; 4]);
+}
+
+/// 1 before 4 before 8, and nothing written; where the pairs are in order and no run is empty, both modes are one.
+#[test]
+fn hermes_refusals_and_both_modes() {
+    let before = StringRow::rows(&[7; 8]);
+    let strings = Strings {
+        kinds: &[1, 1 << 31 | 1],
+        small: &[255 << 24, 1 << 1 | 255 << 24],
+        overflow: &[[0, 1]],
+        storage: b"ab",
+    };
+    let mut rows = [before[0]; 2];
+    assert_eq!(
+        refused(strings.decode_hermes_into(2, &mut rows[..1])),
+        (4, 0)
+    );
+    assert_eq!(refused(strings.decode_hermes_into(2, &mut rows)), (8, 1));
+    assert_eq!(rows, before);
+    let both = Strings {
+        overflow: &[[0, 1], [1, 1]],
+        ..strings
+    };
+    let (hermes, in_order) = (both.decode_hermes(2).unwrap(), both.decode(2).unwrap());
+    assert_eq!(hermes.words(), in_order.words());
+    assert_eq!(hermes.words(), [0, 1, 0, 0, 1, 1, 0, 2]);
 }
 
 /// A header that is not flagged has no large one, whatever its offset says; a flagged one has it where its fields say.

@@ -151,6 +151,15 @@ fn exports_and_declarations_agree() {
     all_in(&declared(), &exported());
 }
 
+/// A caller goes from one mode of strings to the other by the call's name alone.
+#[test]
+fn both_modes_of_strings_take_the_same() {
+    for calls in [declared(), in_the_header()] {
+        let [in_order, hermes] = ["hbc_decode_strings", "hbc_decode_strings_hermes"];
+        assert_eq!(calls[in_order], calls[hermes]);
+    }
+}
+
 /// The header's constants: of `#define HBC_X 5` the name without HBC_, and the number.
 fn constants() -> BTreeMap<String, u32> {
     let text = fs::read_to_string(repository().join("include/hbc.h")).unwrap();

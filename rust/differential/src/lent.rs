@@ -36,6 +36,17 @@ pub fn lent<T: Word>(mut words: Vec<T>, len: usize) -> Vec<T> {
     words
 }
 
+/// Words in front of the lent ones, where a call is given such.
+pub const FRONT: usize = 16;
+
+/// The same with those in front.
+pub fn guarded<T: Word>(words: &[T], len: usize) -> Vec<T> {
+    let mut all = Vec::with_capacity(FRONT + len + BEHIND);
+    all.extend((0..FRONT).map(T::before));
+    all.extend(words);
+    lent(all, FRONT + len)
+}
+
 /// A copy of these words to be lent, and those behind.
 pub fn copied(words: &[u32]) -> Vec<u32> {
     let mut copy = Vec::with_capacity(words.len() + BEHIND);

@@ -7,13 +7,13 @@ use Rattle.hbc_table_strings.proofs.check.Tie as tie
 
 -- before string i: none of the i strings before it lacks its pair, and so many pairs are needed for them
 abbrev Inv-loop : tie.InvT-loop
-Inv-loop n small pairs needed₀ i₀ needed i = (i ≤ n) × Clear small pairs i needed
+Inv-loop mode n small pairs needed₀ i₀ needed i = (i ≤ n) × Clear mode small pairs i needed
 
 abbrev μ-loop : tie.MeasureT-loop
-μ-loop n small pairs needed₀ i₀ needed i = n - i
+μ-loop mode n small pairs needed₀ i₀ needed i = n - i
 
 loop-holds : tie.Need-loop-holds Inv-loop μ-loop
-loop-holds c = (omega arith, clear-first _ _)
+loop-holds c = (omega arith, clear-first _ _ _)
 
 word-of-requires : tie.Need-word-of-requires Inv-loop μ-loop
 word-of-requires c κs = search needs
@@ -29,9 +29,8 @@ refuse-requires c κs = search needs
 
 returns : tie.Need-returns Inv-loop μ-loop
 returns c =
-    let raw = c .before .before .before in
     rw (c .refuse .ensures)
-    (clear-stops (raw .before .before .loop .inv .1) (omega arith) (raw .word-of .ensures) (c .before .before .lacks-pair .ensures) (c .before .if1 .taken))
+    (clear-stops (c .before .before .before .before .before .loop .inv .1) (omega arith) (c .before .before .before .word-of .ensures) (c .before .before .lacks-pair .ensures) (c .before .if1 .taken))
 
 long-one-requires : tie.Need-long-one-requires Inv-loop μ-loop
 long-one-requires c κs = search needs
@@ -47,9 +46,8 @@ loop-less c = search needs
 
 loop-again : tie.Need-loop-again Inv-loop μ-loop
 loop-again c =
-    let raw = c .before .before .before in
     let one = c .long-one .ensures in
-    (omega arith, clear-goes (raw .before .before .loop .inv .1) (raw .word-of .ensures) (c .before .before .lacks-pair .ensures) (c .before .if1 .left) (one .0) (one .1))
+    (omega arith, clear-goes (c .before .before .before .before .before .loop .inv .1) (c .before .before .before .word-of .ensures) (c .before .before .lacks-pair .ensures) (c .before .if1 .left) (one .0) (one .1))
 
 returns-2 : tie.Need-returns-2 Inv-loop μ-loop
 returns-2 c = clear-done (c .before .loop .inv .1) (omega arith)

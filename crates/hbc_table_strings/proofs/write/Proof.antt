@@ -1,16 +1,16 @@
 use borrow.Author.Needs.{needs}
 use Prim.Native.Nat.{_≤_, _-_}
-use Rattle.hbc_table_strings.proofs.Laws.{Written, written-first, written-more, written-length, written-done}
+use Rattle.hbc_table_strings.proofs.Laws.{Written, written-near, written-first, written-more, written-length, written-done}
 use native.Mathlib.Omega.{arith}
 use Rattle.hbc_table_strings.proofs.write.Statement.{statement}
 use Rattle.hbc_table_strings.proofs.write.Tie as tie
 
 -- before string i: the run held and the pairs taken are those of the i strings before it, whose rows are in front of the table as it was lent
 abbrev Inv-loop : tie.InvT-loop
-Inv-loop n kinds small overflow storage rows₀ held₀ taken₀ i₀ rows held taken i = (i ≤ n) × Written kinds small overflow storage i held taken rows₀ rows
+Inv-loop mode n kinds small overflow storage rows₀ held₀ taken₀ i₀ rows held taken i = (i ≤ n) × Written mode kinds small overflow storage i held taken rows₀ rows
 
 abbrev μ-loop : tie.MeasureT-loop
-μ-loop n kinds small overflow storage rows₀ held₀ taken₀ i₀ rows held taken i = n - i
+μ-loop mode n kinds small overflow storage rows₀ held₀ taken₀ i₀ rows held taken i = n - i
 
 holding-requires : tie.Need-holding-requires Inv-loop μ-loop
 holding-requires c κs = search needs
@@ -22,9 +22,7 @@ word-of-requires : tie.Need-word-of-requires Inv-loop μ-loop
 word-of-requires c κs = search needs
 
 moved-on-requires : tie.Need-moved-on-requires Inv-loop μ-loop
-moved-on-requires c κs =
-    let turn = c .before in
-    omega (arith, turn .before .loop .inv .1 .far, turn .loop-test .taken, turn .before .before .before .before .before .before .before .pre .0)
+moved-on-requires c κs = written-near (c .before .before .loop .inv .1) (omega (arith, c .before .loop-test .taken, c .before .before .before .before .before .before .before .before .pre .0)) (c .before .before .before .before .before .before .before .before .good .1 .1 .0 .1)
 
 run-kind-requires : tie.Need-run-kind-requires Inv-loop μ-loop
 run-kind-requires c κs = search needs
@@ -42,28 +40,21 @@ long-one-requires : tie.Need-long-one-requires Inv-loop μ-loop
 long-one-requires c κs = search needs
 
 add-taken : tie.Need-add-taken Inv-loop μ-loop
-add-taken c =
-    let turn = c .before .before .before .before .before .before .before .before .before .before in
-    omega (arith, turn .before .loop .inv .1 .few, turn .loop-test .taken, turn .before .before .before .before .before .before .before .pre .0, c .long-one .ensures .1)
+add-taken c = omega (arith, c .before .before .before .before .before .before .before .before .before .before .before .loop .inv .1 .few, c .before .before .before .before .before .before .before .before .before .before .loop-test .taken, c .before .before .before .before .before .before .before .before .before .before .before .before .before .before .before .before .before .pre .0, c .long-one .ensures .1)
 
 add-i : tie.Need-add-i Inv-loop μ-loop
-add-i c =
-    let turn = c .before .before .before .before .before .before .before .before .before .before in
-    omega (arith, turn .loop-test .taken, turn .before .before .before .before .before .before .before .pre .0)
+add-i c = omega (arith, c .before .before .before .before .before .before .before .before .before .before .loop-test .taken, c .before .before .before .before .before .before .before .before .before .before .before .before .before .before .before .before .before .pre .0)
 
 loop-less : tie.Need-loop-less Inv-loop μ-loop
 loop-less c = search needs
 
 loop-again : tie.Need-loop-again Inv-loop μ-loop
-loop-again c =
-    let put = c .before .before .before .before in
-    let kind = put .before .before .before in
-    let raw = kind .before .before in (
-      omega arith,
-      rw (put .put-string .ensures)
-          (written-more (raw .before .before .loop .inv .1) (raw .word-of .ensures) (kind .before .moved-on .ensures .0) (kind .before .moved-on .ensures .1)
-          (kind .run-kind .ensures .0) (put .before .row-with .ensures) (c .before .spent .ensures) (c .long-one .ensures .0) (c .long-one .ensures .1)),
-    )
+loop-again c = (
+  omega arith,
+  rw (c .before .before .before .before .put-string .ensures)
+      (written-more (c .before .before .before .before .before .before .before .before .before .before .before .loop .inv .1) (c .before .before .before .before .before .before .before .before .before .word-of .ensures) (c .before .before .before .before .before .before .before .before .moved-on .ensures) (c .before .before .before .before .before .before .before .run-kind .ensures .0)
+      (c .before .before .before .before .before .row-with .ensures) (c .before .spent .ensures) (c .long-one .ensures .0) (c .long-one .ensures .1)),
+)
 
 same-length : tie.Need-same-length Inv-loop μ-loop
 same-length c = written-length (c .before .loop .inv .1)

@@ -7,6 +7,7 @@ use harness::Random;
 
 use super::io::any_bytes;
 use super::{calls, refused, row, scattered};
+use crate::strings::Decode;
 use crate::table::Bench;
 
 const ROW: usize = StringRow::WORDS;
@@ -56,6 +57,7 @@ pub fn rows(bench: &Bench) {
             (refused(8, n - 1), decode)
         },
     );
+    hermes(bench);
     row(bench, "string_bytes", "any row", |n| {
         let storage = vec![0; n];
         let words: Vec<u32> = (0..n)
@@ -73,15 +75,82 @@ pub fn rows(bench: &Bench) {
     });
 }
 
-/// Strings of a storage of 1,000 bytes, by these runs and entries and so many pairs.
+/// Hermes mode: runs that name no string, and pairs that many share.
+fn hermes(bench: &Bench) {
+    let name = "decode_strings_hermes";
+    row(bench, name, "so many empty runs before one string", |n| {
+        let mut runs = vec![1 << 31; n];
+        runs[n - 1] |= 1;
+        decode_hermes(runs, vec![1 << 24], 0)
+    });
+    let between = |n: usize| [1, 1 << 31, 1 << 31 | 1, 0].repeat(n / 2);
+    row(
+        bench,
+        name,
+        "an empty run between any two, one pair for all",
+        |n| decode_hermes(between(n), vec![0xFF00_0001; n], 1),
+    );
+    row(
+        bench,
+        name,
+        "the same, a pair far from the one before",
+        |n| {
+            let number = |i| (scattered(i, n) as u32) << 1;
+            let small = (0..n).map(|i| 0xFF00_0001 | number(i)).collect();
+            decode_hermes(between(n), small, n)
+        },
+    );
+    row(
+        bench,
+        name,
+        "any entry, runs of 0 or 1, any of 1,000 pairs",
+        |n| {
+            let mut random = Random::new(1);
+            let runs = (0..2 * n).map(|_| random.word() as u32 & 0x8000_0001);
+            let runs = runs.collect();
+            let mut entry = || match random.below(2) {
+                0 => random.word() as u32 & 0x7FFF_FFFF,
+                _ => 0xFF00_0000 | (random.below(1_000) as u32) << 1 | random.below(2) as u32,
+            };
+            let small = (0..n).map(|_| entry()).collect();
+            decode_hermes(runs, small, 1_000)
+        },
+    );
+    row(
+        bench,
+        name,
+        "one pair for all, the last number past it",
+        |n| {
+            let mut small = vec![0xFF00_0000; n];
+            small[n - 1] |= 1 << 1;
+            let (_, decode) = decode_hermes(between(n), small, 1);
+            (refused(8, n - 1), decode)
+        },
+    );
+}
+
+fn decode_hermes(runs: Vec<u32>, small: Vec<u32>, pairs: usize) -> (u64, impl FnMut() -> u64) {
+    decoded(hbc_decode_strings_hermes, runs, small, pairs)
+}
+
 fn decode(runs: Vec<u32>, small: Vec<u32>, pairs: usize) -> (u64, impl FnMut() -> u64) {
+    decoded(hbc_decode_strings, runs, small, pairs)
+}
+
+/// Strings of a storage of 1,000 bytes, by these runs and entries and so many pairs.
+fn decoded(
+    call: Decode,
+    runs: Vec<u32>,
+    small: Vec<u32>,
+    pairs: usize,
+) -> (u64, impl FnMut() -> u64) {
     let mut random = Random::new(2);
     let overflow: Vec<u32> = (0..2 * pairs).map(|_| random.below(1_000) as u32).collect();
     let storage = [0; 1_000];
     let mut rows = vec![0; ROW * small.len()];
     let answer = small.len() as u64;
     let decode = move || unsafe {
-        hbc_decode_strings(
+        call(
             u32::MAX,
             runs.as_ptr(),
             runs.len(),

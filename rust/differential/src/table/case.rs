@@ -1,15 +1,17 @@
 //! The calls on string tables.
 
+pub mod hermes;
 pub mod reads;
 pub mod strings;
 
 use crate::case::{Difference, Words};
 
-/// `U32Table|PairTable CURSOR COUNT WORDS BYTES`, `Strings COUNT WORDS KINDS SMALL OVERFLOW STORAGE` or
+/// `U32Table|PairTable CURSOR COUNT WORDS BYTES`, `Strings|Hermes COUNT WORDS KINDS SMALL OVERFLOW STORAGE` or
 /// `StringBytes INDEX ROWS STORAGE`, as a difference prints them: WORDS is how many are lent.
 pub fn replay(words: &mut Words) -> Result<String, Difference> {
     match () {
         _ if words.called("Strings") => strings::replay(words),
+        _ if words.called("Hermes") => hermes::replay(words),
         _ if words.called("StringBytes") => strings::replay_bytes(words),
         _ => reads::replay(words),
     }

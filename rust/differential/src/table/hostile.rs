@@ -1,5 +1,7 @@
 //! Hostile inputs for the string tables.
 
+mod hermes;
+
 use bisquepond::sys::LIMIT;
 use harness::Random;
 
@@ -16,7 +18,12 @@ const LONG: [u32; 2] = [0xFF00_0000, 0xFF00_0001];
 pub fn soak(soak: &mut Soak) -> Compared {
     reads(soak)?;
     strings(soak)?;
-    soak.at_random(1 << 14, any)
+    hermes::soak(soak)?;
+    let mut other = soak.random(98);
+    soak.at_random(1 << 14, |random| {
+        any(random)?;
+        hermes::any(&mut other)
+    })
 }
 
 fn reads(soak: &mut Soak) -> Compared {

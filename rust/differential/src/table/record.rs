@@ -1,17 +1,24 @@
 //! A sample of what is right of string tables.
 
+mod hermes;
+
 use harness::Random;
 
 use super::case::reads::{self, Op, OPS};
 use super::case::strings::{self, right_bytes, ROW};
 use super::groups::{any_case, small, IDENTIFIER};
-use crate::case::code;
+use crate::case::{code, Refusal};
 use crate::inputs::any_bytes;
 use crate::record::{Record, Sample, FILL};
 use crate::record::{DECODE_STRINGS, READ_PAIR_TABLE, READ_U32_TABLE, STRING_BYTES};
 
-const NAMES: [&str; 4] =
-    ["read_u32_table", "read_pair_table", "decode_strings", "string_span, string_bytes"];
+const NAMES: [&str; 5] = [
+    "read_u32_table",
+    "read_pair_table",
+    "decode_strings",
+    "string_span, string_bytes",
+    "decode_strings_hermes",
+];
 
 /// The words for which the program has room, besides those that are not lent; and those of a table that it is given.
 const MOST_LENT: usize = 120;
@@ -20,7 +27,7 @@ const MOST_GIVEN: usize = 64;
 fn answers(group: usize) -> &'static [u32] {
     match group {
         0 | 1 => &[0, 2, 3, 4],
-        2 => &[0, 4, 8],
+        2 | hermes::GROUP => &[0, 4, 8],
         _ => &[0],
     }
 }
@@ -48,25 +55,34 @@ fn read(sample: &mut Sample, op: Op, input: &[u8], at: usize, count: u32, lent: 
 }
 
 fn decode(sample: &mut Sample, case: strings::Case) {
-    assert!(case.lent <= MOST_LENT);
-    let given = [case.kinds, case.small, case.overflow];
-    assert!(given.iter().all(|words| words.len() <= MOST_GIVEN));
     let right = case.decoded(0);
     if let Ok((words, texts)) = &right {
         for (i, (row, text)) in words.chunks(ROW).zip(texts).enumerate() {
             case.reads(i, row, text).expect("the Rust's text");
         }
     }
-    let words = right.as_ref().map_or(&[][..], |right| &right.0);
+    decoded(sample, (2, DECODE_STRINGS), case, right.map(|right| right.0));
+}
+
+/// A record of the strings, by its group and call, with the words of the rows or the refusal.
+fn decoded(
+    sample: &mut Sample,
+    (group, call): (usize, u64),
+    case: strings::Case,
+    right: Result<Vec<u32>, Refusal>,
+) {
+    assert!(case.lent <= MOST_LENT);
+    let given = [case.kinds, case.small, case.overflow];
+    assert!(given.iter().all(|words| words.len() <= MOST_GIVEN));
     let number = right.as_ref().map_or_else(|why| why.0, |_| 0);
-    let rows = right.as_ref().map(|right| right.1.len() as u32);
-    let record = Record::new(DECODE_STRINGS, &[case.lent as u64], &[case.count], case.storage)
+    let rows = right.as_ref().map(|words| (words.len() / ROW) as u32);
+    let record = Record::new(call, &[case.lent as u64], &[case.count], case.storage)
         .answer(&[code(rows.map_err(|&why| why)), 0])
-        .table(&written(words, case.lent))
+        .table(&written(right.as_ref().map_or(&[][..], |words| words), case.lent))
         .words(case.kinds)
         .words(case.small)
         .words(case.overflow);
-    sample.add(2, number, record);
+    sample.add(group, number, record);
 }
 
 fn span(sample: &mut Sample, storage: &[u8], rows: &[u32], index: usize) {
@@ -87,6 +103,7 @@ pub fn write(mut random: Random) -> (Vec<u8>, Vec<String>) {
     while sample.fewer(1_170) {
         any(&mut sample, &mut random);
     }
+    hermes::write(&mut sample, &mut random);
     sample.done(answers)
 }
 

@@ -1,5 +1,7 @@
 use Rattle.hbc_table_strings.specs.Entries.{lacksPair}
-use Rattle.hbc_rows.proofs.Laws.{test-eq, test-ne}
+use mathlib.Core.Path.{refl}
+use Rattle.hbc_rows.proofs.Laws.{test-ne}
+use Rattle.hbc_table_strings.proofs.Laws.{lacks-long}
 use borrow.Author.Needs.{needs}
 use Rattle.hbc_table_strings.proofs.entries.lacks_pair.Statement.{statement}
 use Rattle.hbc_table_strings.proofs.entries.lacks_pair.Tie as tie
@@ -11,8 +13,7 @@ pair-taken-requires : tie.Need-pair-taken-requires
 pair-taken-requires c κs = search needs
 
 returns : tie.Need-returns
-unfolding lacksPair
-returns c = rw (test-eq (c .before .before .long-one .ensures .0) (c .before .if1 .taken), c .pair-taken .ensures)
+returns c = lacks-long _ _ _ (c .before .before .long-one .ensures .0) (c .before .if1 .taken) (c .pair-taken .ensures) refl
 
 returns-2 : tie.Need-returns-2
 unfolding lacksPair

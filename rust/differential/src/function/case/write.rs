@@ -6,7 +6,7 @@ use bisquepond::sys::*;
 use super::{fresh, Layout, Row, FLAGS, INFO_OFFSET, LAYOUTS, ROW};
 use crate::case::{self, bytes_word, printed, replayed, said, table_word};
 use crate::case::{Compare, Difference, Refusal, Words};
-use crate::lent::{copied, lent, Word, BEHIND};
+use crate::lent::{copied, guarded, BEHIND, FRONT};
 use crate::meter;
 
 /// A field by its word in a row, its bits in an inline header and its bytes in a large one.
@@ -198,17 +198,6 @@ pub struct Written {
     rows: Vec<u32>,
 }
 
-/// Bytes in front of the buffer, which no call may touch.
-const FRONT: usize = 16;
-
-/// A copy of the buffer with bytes on both sides that are not lent.
-fn guarded(buffer: &[u8]) -> Vec<u8> {
-    let mut bytes: Vec<u8> = (0..FRONT).map(Word::before).collect();
-    bytes.extend(buffer);
-    let len = bytes.len();
-    lent(bytes, len)
-}
-
 /// The same rows, read back from a buffer by our reader and by the Rust's; else what is wrong.
 pub fn read_back(case: &Case, buffer: &[u8]) -> Result<(), String> {
     let Case { layout, start, count, .. } = *case;
@@ -255,14 +244,14 @@ impl Compare for Case<'_> {
     type Besides = ();
 
     fn ours(&self) -> Result<Written, String> {
-        let (mut bytes, rows) = (guarded(self.buffer), copied(self.rows));
+        let (mut bytes, rows) = (guarded(self.buffer, self.buffer.len()), copied(self.rows));
         let (lent, len) = (bytes[FRONT..].as_mut_ptr(), self.buffer.len());
         let code = self.lending(rows.as_ptr(), self.rows.len(), lent, len);
         Ok(Written { code, bytes, rows })
     }
 
     fn right(&self, _: Option<&Written>) -> (Written, ()) {
-        let (mut bytes, rows) = (guarded(self.buffer), copied(self.rows));
+        let (mut bytes, rows) = (guarded(self.buffer, self.buffer.len()), copied(self.rows));
         let answer = plain(self, self.buffer.len()).map(|plain| {
             for (at, piece) in &plain.pieces {
                 bytes[FRONT + at..][..piece.len()].copy_from_slice(piece);
