@@ -85,5 +85,7 @@ unique = record {
   row_is_right = λ k a r q s u. same;
   inline_words = λ k a r q s u. same;
   pointer_words = λ k a r q s u. same;
+  put_header = λ k a r q s u. same;
+  put_large = λ k a r q s u. same;
   write_functions = λ k a r q s u. alone one-wrote;
 }

@@ -19,8 +19,10 @@ use Rattle.hbc_function.proofs.refresh_functions.Reads as of-refresh-functions
 use Rattle.hbc_function_bytes.proofs.row_is_right.Reads as of-row-is-right
 use Rattle.hbc_function_bytes.proofs.inline_words.Reads as of-inline-words
 use Rattle.hbc_function_bytes.proofs.pointer_words.Reads as of-pointer-words
+use Rattle.hbc_function_put.proofs.put_header.Reads as of-put-header
+use Rattle.hbc_function_put.proofs.put_large.Reads as of-put-large
 use Rattle.hbc_function_write.proofs.write_functions.Reads as of-write-functions
-use Rattle.hbc_claims_law.specs.Law.{One, Both}
+use Rattle.hbc_claims_law.specs.Law.{One, Words, Both}
 
 -- the calls by name
 pub record Unique : Type 0 where
@@ -43,4 +45,6 @@ pub record Unique : Type 0 where
   pub row_is_right : One of-row-is-right.Learnt
   pub inline_words : One of-inline-words.Learnt
   pub pointer_words : One of-pointer-words.Learnt
+  pub put_header : Words of-put-header.Learnt (λ s. now (s .0))
+  pub put_large : Words of-put-large.Learnt (λ s. now (s .0))
   pub write_functions : Both of-write-functions.Learnt (λ s. now (s .1 .1 .1 .1 .1 .0))

@@ -6,8 +6,8 @@ use mathlib.Core.Bool.{Bool, true, false, cond}
 use mathlib.Core.Logic.{_⊎_, inl, inr, ⊎-elim}
 use native.Mathlib.Omega.{arith}
 use lib.ListN.{length, getD}
-use lib.Dec.{ltb, lit<}
-use borrow.Author.Tests.{ltb-true, ltb-false, ne-eqb}
+use lib.Dec.{ltb, eqb, lit<}
+use borrow.Author.Tests.{ltb-true, ltb-false, ne-eqb, eqb-true}
 use Rattle.hbc_io.specs.declared.Refusal.{Refusal}
 use Rattle.hbc_io.specs.Outcome.{limit, refusalAt}
 use Rattle.hbc_io.specs.Answer.{Answer, gives, refuses, andThen}
@@ -21,8 +21,8 @@ use Rattle.hbc_function_bytes.specs.Bytes.{goesInline, rightRow}
 use Rattle.hbc_function_write.specs.declared.Wrote.{Wrote}
 use Rattle.hbc_function_write.specs.declared.Wrote.the-variants as wrote
 use Rattle.hbc_function_write.specs.Write.{saysWrote, rounded, placeAt, endAt, tableEnd, saysEnd, rightEnd, checked, follows, rightRows, fitting}
-use Rattle.hbc_function_write.specs.Private.{Room, Ends, far}
-use Rattle.hbc_function_write.proofs.Places.{place-after}
+use Rattle.hbc_function_write.specs.Private.{Room, Ends, Inlines, far}
+use Rattle.hbc_function_write.proofs.Places.{place-after, none-large}
 use Rattle.hbc_function_write.proofs.Plans.{checked-same, through, all-checked}
 use Rattle.hbc_function_write.proofs.Plains.{row-word}
 
@@ -196,3 +196,7 @@ module _ (rows : List ℕ) (layout : Layout) (start count large : ℕ) (b : List
 
         pub call-room : Room layout (rowAt width rows) start large count (length b)
         call-room = record { after = rw table-is at h; room = rw whole at l }
+
+        -- where it ends with the table, all rows go inline
+        pub call-inline : eqb end (start + count * size) ≡ true → Inlines layout (rowAt width rows) count
+        call-inline q = none-large call-room (sym whole ∙ eqb-true end (start + count * size) q ∙ table-is)

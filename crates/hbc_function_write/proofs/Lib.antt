@@ -1,4 +1,3 @@
-pub mod Puts
 pub mod Places
 pub mod Plans
 pub mod Plains

@@ -18,7 +18,7 @@ use Rattle.hbc_function_record.specs.Row.{ROW_INFO_OFFSET, ROW_FLAGS}
 use Rattle.hbc_function_header.specs.Header.{headerAt}
 use Rattle.hbc_function_bytes.specs.Bytes.{fieldsIn, valuesIn, infoFree, goesInline}
 use Rattle.hbc_function_write.specs.Write.{rounded, freeAt, placeAt, endAt, tableEnd, rightEnd}
-use Rattle.hbc_function_write.specs.Private.{Room, Ends, Ended}
+use Rattle.hbc_function_write.specs.Private.{Room, Ends, Ended, Inlines}
 
 pub large-small : (layout : Layout) → largeOf layout ≤ 37
 large-small lay.Legacy16 = omega arith
@@ -128,6 +128,22 @@ module _ {layout : Layout} {f : ℕ → List ℕ} {start large count n : ℕ} (v
 
     pub head-place : (k : ℕ) → headerAt layout start i + sizeOf layout ≤ placeAt layout f large k
     head-place k = le-trans (head-before layout start i count h) (le-trans (v .after) (place-after layout f large k))
+
+  -- nothing ends behind the table: no row is large
+  inline-by : (e : endAt layout f large (tableEnd layout start count) count ≡ tableEnd layout start count) (i : ℕ) → i < count → (b : Bool) → goesInline layout (f i) ≡ b
+      → b ≡ true
+  inline-by e i h true g = refl
+  inline-by e i h false g =
+      let p = end-free layout f large (tableEnd layout start count) i count h g in
+      let q = free-large layout f large i g in
+      let m = free-mono layout f large (suc i) count h in
+      let a = place-after layout f large i in
+      let s = large-some layout in
+      let z = v .after in
+      absurd (omega arith)
+
+  pub none-large : endAt layout f large (tableEnd layout start count) count ≡ tableEnd layout start count → Inlines layout f count
+  none-large e = record { all = λ i h. inline-by e i h (goesInline layout (f i)) refl }
 
 -- ---- a modern row that is not refused 14
 

@@ -19,7 +19,7 @@ use Rattle.hbc_function_record.specs.declared.Layout.the-variants as lay
 use Rattle.hbc_function_record.specs.Row.{width, numberIn}
 use Rattle.hbc_function_bytes.specs.Bytes.{goesInline, rightRow}
 use Rattle.hbc_function_bytes.proofs.Sums.{same-test, inTheWay, none-in-the-way, legacy-way, modern-way, amiss, none-amiss, wrong-layout, wrong-id, legacy-amiss, modern-amiss}
-use Rattle.hbc_function_write.specs.Private.{clear, Plain}
+use Rattle.hbc_function_write.specs.Private.{paired, halves, clear, Plain}
 
 -- word k of row i
 pub row-word : (rows : List ℕ) (i k : ℕ) → k < width → getD (rowAt width rows i) k 0 ≡ getD rows (i * width + k) 0
@@ -45,28 +45,83 @@ or-test a b =
     let y : b ≡ 0 = eqb-true b 0 (t .1) in
     eq-eqb (bitOr a b) 0 (rw (x, y) (or-zero-l 0)))
 
--- what is or-ed of words 0 to k - 1 is 0 exactly when they are clear
+-- ---- pairs
+
+-- a pair has none of its bits set exactly when neither half has
+pair-test : (a b m : ℕ) → a < 2 ^ 32
+    → eqb (bitAnd (a + b * 2 ^ 32) m) 0 ≡ cond (eqb (bitAnd a (m % 2 ^ 32)) 0) (eqb (bitAnd b (m / 2 ^ 32)) 0) false
+pair-test a b m h =
+    let q : m / 2 ^ 32 * 2 ^ 32 + m % 2 ^ 32 ≡ m = omega arith in
+    let p : b * 2 ^ 32 + a ≡ a + b * 2 ^ 32 = omega arith in
+    let c : bitAnd (b * 2 ^ 32 + a) (m / 2 ^ 32 * 2 ^ 32 + m % 2 ^ 32) ≡ bitAnd b (m / 2 ^ 32) * 2 ^ 32 + bitAnd a (m % 2 ^ 32) =
+    and-block 32 b (m / 2 ^ 32) a (m % 2 ^ 32) h (mod-lt m (lit< tt)) in
+    let e : bitAnd (a + b * 2 ^ 32) m ≡ bitAnd b (m / 2 ^ 32) * 2 ^ 32 + bitAnd a (m % 2 ^ 32) = rw (p, q) at c in
+    same-test (eqb (bitAnd (a + b * 2 ^ 32) m) 0) (cond (eqb (bitAnd a (m % 2 ^ 32)) 0) (eqb (bitAnd b (m / 2 ^ 32)) 0) false)
+    (λ t.
+    let z : bitAnd b (m / 2 ^ 32) * 2 ^ 32 + bitAnd a (m % 2 ^ 32) ≡ 0 = sym e ∙ eqb-true (bitAnd (a + b * 2 ^ 32) m) 0 t in
+    rw (eq-eqb (bitAnd a (m % 2 ^ 32)) 0 (omega arith), eq-eqb (bitAnd b (m / 2 ^ 32)) 0 (omega arith)))
+    (λ t.
+    let u = both (eqb (bitAnd a (m % 2 ^ 32)) 0) t in
+    let x : bitAnd a (m % 2 ^ 32) ≡ 0 = eqb-true (bitAnd a (m % 2 ^ 32)) 0 (u .0) in
+    let y : bitAnd b (m / 2 ^ 32) ≡ 0 = eqb-true (bitAnd b (m / 2 ^ 32)) 0 (u .1) in
+    eq-eqb (bitAnd (a + b * 2 ^ 32) m) 0 (e ∙ omega arith))
+
+twice : (k : ℕ) → suc k * 2 ≡ suc (suc (k * 2))
+twice k = omega arith
+
+low-half : (ms : List ℕ) (k : ℕ) → getD (halves ms) (k * 2) 0 ≡ getD ms k 0 % 2 ^ 32
+low-half [] k = refl
+low-half (m ∷ ms) zero = refl
+low-half (m ∷ ms) (suc k) = rw (twice k) (low-half ms k)
+
+high-half : (ms : List ℕ) (k : ℕ) → getD (halves ms) (suc (k * 2)) 0 ≡ getD ms k 0 / 2 ^ 32
+high-half [] k = refl
+high-half (m ∷ ms) zero = refl
+high-half (m ∷ ms) (suc k) = rw (twice k) (high-half ms k)
+
+cond-cond : (a b c : Bool) → cond a (cond b c false) false ≡ cond (cond a b false) c false
+cond-cond true b c = refl
+cond-cond false b c = refl
+
+-- what is or-ed of pairs 0 to k - 1 is 0 exactly when their words are clear
 pub record Clearing (w masks : List ℕ) (k set : ℕ) : Type 0 where
-  pub within : k ≤ width
-  pub tests : eqb set 0 ≡ clear masks w k
+  pub within : k ≤ 8
+  pub tests : eqb set 0 ≡ clear (halves masks) w (k * 2)
 
 pub clearing-first : (w masks : List ℕ) → Clearing w masks 0 0
 unfolding clear
 clearing-first w masks = record { within = omega arith; tests = refl }
 
-pub clearing-more : (rows : List ℕ) (i : ℕ) {masks : List ℕ} {k set : ℕ} → Clearing (rowAt width rows i) masks k set → k < width
-    → Clearing (rowAt width rows i) masks (k + 1) (bitOr set (bitAnd (getD rows (i * width + k) 0) (getD masks k 0)))
+clear-two : (w masks : List ℕ) (k : ℕ)
+    → clear (halves masks) w (suc k * 2)
+    ≡ cond (cond (clear (halves masks) w (k * 2)) (eqb (bitAnd (getD w (k * 2) 0) (getD masks k 0 % 2 ^ 32)) 0) false)
+    (eqb (bitAnd (getD w (suc (k * 2)) 0) (getD masks k 0 / 2 ^ 32)) 0) false
 unfolding clear
-clearing-more rows i {masks} {k} {set} v h =
+clear-two w masks k = rw (twice k, low-half masks k, high-half masks k)
+
+pub clearing-more : (rows : List ℕ) (i : ℕ) {masks : List ℕ} {k set p : ℕ} → ((j : ℕ) → getD rows j 0 < 2 ^ 32) → Clearing (rowAt width rows i) masks k set → k < 8
+    → p ≡ paired rows (i * width + k * 2) → Clearing (rowAt width rows i) masks (k + 1) (bitOr set (bitAnd p (getD masks k 0)))
+unfolding paired
+clearing-more rows i {masks} {k} {set} {p} u v h e =
+    let a : getD (rowAt width rows i) (k * 2) 0 ≡ getD rows (i * width + k * 2) 0 = row-word rows i (k * 2) (omega arith) in
+    let b : getD (rowAt width rows i) (suc (k * 2)) 0 ≡ getD rows (i * width + k * 2 + 1) 0 =
+    row-word rows i (suc (k * 2)) (omega arith) ∙ ap (λ (j : ℕ). getD rows j 0) (omega arith) in
+    let t : eqb (bitAnd p (getD masks k 0)) 0
+    ≡ cond (eqb (bitAnd (getD (rowAt width rows i) (k * 2) 0) (getD masks k 0 % 2 ^ 32)) 0)
+    (eqb (bitAnd (getD (rowAt width rows i) (suc (k * 2)) 0) (getD masks k 0 / 2 ^ 32)) 0) false =
+    rw (e, a, b) (pair-test (getD rows (i * width + k * 2) 0) (getD rows (i * width + k * 2 + 1) 0) (getD masks k 0) (u (i * width + k * 2))) in
     record {
       within = omega arith;
       tests =
-          or-test set (bitAnd (getD rows (i * width + k) 0) (getD masks k 0))
-          ∙ rw (add-one k, row-word rows i k h, v .tests);
+          or-test set (bitAnd p (getD masks k 0))
+          ∙ rw (v .tests, t)
+          (cond-cond (clear (halves masks) (rowAt width rows i) (k * 2)) (eqb (bitAnd (getD (rowAt width rows i) (k * 2) 0) (getD masks k 0 % 2 ^ 32)) 0)
+          (eqb (bitAnd (getD (rowAt width rows i) (suc (k * 2)) 0) (getD masks k 0 / 2 ^ 32)) 0)
+          ∙ sym (rw (add-one k) (clear-two (rowAt width rows i) masks k)));
     }
 
-pub clearing-done : {w masks : List ℕ} {k set : ℕ} → Clearing w masks k set → width ≤ k → eqb set 0 ≡ clear masks w width
-clearing-done {w} {masks} {k} v h = let l = v .within in let e : k ≡ width = omega arith in v .tests ∙ ap (clear masks w) e
+pub clearing-done : {w masks : List ℕ} {k set : ℕ} → Clearing w masks k set → 8 ≤ k → eqb set 0 ≡ clear (halves masks) w width
+clearing-done {w} {masks} {k} v h = let l = v .within in let e : k * 2 ≡ width = omega arith in v .tests ∙ ap (clear (halves masks) w) e
 
 -- ---- word by word
 
@@ -150,8 +205,9 @@ clear-whole x e = and-mask x 32 ∙ rw e
 abbrev pub legacyMasks : List ℕ
 legacyMasks = 0 ∷ 0 ∷ 0xFE000000 ∷ 0xFFFFFF80 ∷ 0xFFFF8000 ∷ 0xFFFE0000 ∷ 0xFE000000 ∷ 0xFFFFFF80 ∷ 0xFFFFFF20 ∷ 0xFFFFFF00 ∷ 0xFFFFFF00 ∷ 0xFFFFFF00 ∷ 0 ∷ 0 ∷ 0 ∷ 0 ∷ []
 
-abbrev pub legacyZeros : List ℕ
-legacyZeros = 0 ∷ 0 ∷ 0 ∷ 0 ∷ 0 ∷ 0 ∷ 0 ∷ 0 ∷ 0 ∷ 0 ∷ 0 ∷ 0 ∷ 0xFFFFFFFF ∷ 0xFFFFFFFF ∷ 0xFFFFFFFF ∷ 0xFFFFFFFF ∷ []
+-- with the four zeros besides
+abbrev pub plainMasks : List ℕ
+plainMasks = 0 ∷ 0 ∷ 0xFE000000 ∷ 0xFFFFFF80 ∷ 0xFFFF8000 ∷ 0xFFFE0000 ∷ 0xFE000000 ∷ 0xFFFFFF80 ∷ 0xFFFFFF20 ∷ 0xFFFFFF00 ∷ 0xFFFFFF00 ∷ 0xFFFFFF00 ∷ 0xFFFFFFFF ∷ 0xFFFFFFFF ∷ 0xFFFFFFFF ∷ 0xFFFFFFFF ∷ []
 
 abbrev pub modernMasks : List ℕ
 modernMasks = 0 ∷ 0 ∷ 0xFE000000 ∷ 0xFFFFFFE0 ∷ 0xFFFFC000 ∷ 0xFFFFFF00 ∷ 0xFFFFFFFF ∷ 0xFFFFFF00 ∷ 0xFFFFFF20 ∷ 0xFFFFFFFC ∷ 0xFFFFFFE0 ∷ 0xFFFFFFE0 ∷ 0xFFFFFF00 ∷ 0xFFFFFFC0 ∷ 0xFFFFFFFE ∷ 0xFFFFFFFE ∷ []
@@ -239,29 +295,52 @@ module _ (w : List ℕ) (u : (k : ℕ) → getD w k 0 < 2 ^ 32) where
       (clear-high 31 1 (getD w 14 0) (omega arith))
       (clear-high 31 1 (getD w 15 0) (omega arith))))
 
-  -- the four zeros
-  zeros-clear : clear legacyZeros w width ≡ true → (getD w 12 0 ≡ 0) × (getD w 13 0 ≡ 0) × (getD w 14 0 ≡ 0) × (getD w 15 0 ≡ 0)
-  zeros-clear h =
-      let c = clear-all legacyZeros w width h in
-      (whole-clear (getD w 12 0) (u 12) (c 12 (lit< tt)), whole-clear (getD w 13 0) (u 13) (c 13 (lit< tt)), whole-clear (getD w 14 0) (u 14) (c 14 (lit< tt)), whole-clear (getD w 15 0) (u 15) (c 15 (lit< tt)))
+  -- clear of all that is plain: it goes inline, and the four words are 0
+  plain-inline : clear plainMasks w width ≡ true → (clear legacyMasks w width ≡ true) × (getD w 12 0 ≡ 0) × (getD w 13 0 ≡ 0) × (getD w 14 0 ≡ 0) × (getD w 15 0 ≡ 0)
+  plain-inline h =
+      let c = clear-all plainMasks w width h in (
+        all-clear legacyMasks w width
+            (each-word (λ k. bitAnd (getD w k 0) (getD legacyMasks k 0) ≡ 0)
+            (c 0 (lit< tt))
+            (c 1 (lit< tt))
+            (c 2 (lit< tt))
+            (c 3 (lit< tt))
+            (c 4 (lit< tt))
+            (c 5 (lit< tt))
+            (c 6 (lit< tt))
+            (c 7 (lit< tt))
+            (c 8 (lit< tt))
+            (c 9 (lit< tt))
+            (c 10 (lit< tt))
+            (c 11 (lit< tt))
+            (and-zero-r (getD w 12 0))
+            (and-zero-r (getD w 13 0))
+            (and-zero-r (getD w 14 0))
+            (and-zero-r (getD w 15 0))),
+        whole-clear (getD w 12 0) (u 12) (c 12 (lit< tt)),
+        whole-clear (getD w 13 0) (u 13) (c 13 (lit< tt)),
+        whole-clear (getD w 14 0) (u 14) (c 14 (lit< tt)),
+        whole-clear (getD w 15 0) (u 15) (c 15 (lit< tt)),
+      )
 
-  -- and of a right row they are clear
-  clear-zeros : (i : ℕ) → amiss lay.Legacy16 i w ≡ 0 → clear legacyZeros w width ≡ true
-  clear-zeros i z =
-      all-clear legacyZeros w width
-      (each-word (λ k. bitAnd (getD w k 0) (getD legacyZeros k 0) ≡ 0)
-      (and-zero-r (getD w 0 0))
-      (and-zero-r (getD w 1 0))
-      (and-zero-r (getD w 2 0))
-      (and-zero-r (getD w 3 0))
-      (and-zero-r (getD w 4 0))
-      (and-zero-r (getD w 5 0))
-      (and-zero-r (getD w 6 0))
-      (and-zero-r (getD w 7 0))
-      (and-zero-r (getD w 8 0))
-      (and-zero-r (getD w 9 0))
-      (and-zero-r (getD w 10 0))
-      (and-zero-r (getD w 11 0))
+  -- and a right row that goes inline is
+  inline-plain : (i : ℕ) → amiss lay.Legacy16 i w ≡ 0 → clear legacyMasks w width ≡ true → clear plainMasks w width ≡ true
+  inline-plain i z h =
+      let c = clear-all legacyMasks w width h in
+      all-clear plainMasks w width
+      (each-word (λ k. bitAnd (getD w k 0) (getD plainMasks k 0) ≡ 0)
+      (c 0 (lit< tt))
+      (c 1 (lit< tt))
+      (c 2 (lit< tt))
+      (c 3 (lit< tt))
+      (c 4 (lit< tt))
+      (c 5 (lit< tt))
+      (c 6 (lit< tt))
+      (c 7 (lit< tt))
+      (c 8 (lit< tt))
+      (c 9 (lit< tt))
+      (c 10 (lit< tt))
+      (c 11 (lit< tt))
       (clear-whole (getD w 12 0) (omega arith))
       (clear-whole (getD w 13 0) (omega arith))
       (clear-whole (getD w 14 0) (omega arith))
@@ -271,6 +350,10 @@ module _ (w : List ℕ) (u : (k : ℕ) → getD w k 0 < 2 ^ 32) where
 
 either : {A : Type 0} {b : Bool} → b ≡ true → b ≡ false → A
 either p q = let z : _≡_ {A = ℕ} 0 1 = cc in absurd (omega arith)
+
+not-inline : (b : Bool) → (b ≡ true → ⊥) → b ≡ false
+not-inline true f = absurd (f refl)
+not-inline false f = refl
 
 -- a row that is not right
 not-right : (layout : Layout) (i : ℕ) (w : List ℕ) → false ≡ rightRow layout i w → Plain layout i w false
@@ -300,53 +383,78 @@ module _ (rows : List ℕ) (i : ℕ) (u : (k : ℕ) → getD rows k 0 < 2 ^ 32) 
   pub modern-goes : clear modernMasks row width ≡ goesInline lay.Modern12 row
   modern-goes = modern-inline row small
 
-  -- by its first two words
-  pub other-layout : (layout : Layout) → (getD rows (i * width) 0 ≡ numberIn layout → ⊥) → Plain layout i row false
-  other-layout layout n = not-right layout i row (wrong-layout layout i row (λ e. n (sym first ∙ e)))
+  -- its first two words as a pair: layout and number
+  abbrev own : Layout → ℕ
+  own lay.Legacy16 = i * 4294967296
+  own lay.Modern12 = i * 4294967296 + 1
 
-  module _ (layout : Layout) (o : getD rows (i * width) 0 ≡ numberIn layout) where
-    pub other-id : (getD rows (i * width + 1) 0 ≡ i → ⊥) → Plain layout i row false
-    other-id n = not-right layout i row (wrong-id layout i row (first ∙ o) (λ e. n (sym (row-word rows i 1 (lit< tt)) ∙ e)))
+  own-is : (layout : Layout) → own layout ≡ i * 4294967296 + numberIn layout
+  own-is lay.Legacy16 = omega arith
+  own-is lay.Modern12 = refl
 
-    module _ (d : getD rows (i * width + 1) 0 ≡ i) where
+  number-small : (layout : Layout) → numberIn layout < 2
+  number-small lay.Legacy16 = lit< tt
+  number-small lay.Modern12 = lit< tt
+
+  wrong-by : (layout : Layout) (b : Bool) → eqb (getD row 0 0) (numberIn layout) ≡ b → (getD row 0 0 ≡ numberIn layout → getD row 1 0 ≡ i → ⊥) → false ≡ rightRow layout i row
+  wrong-by layout true e n = let o = eqb-true (getD row 0 0) (numberIn layout) e in wrong-id layout i row o (n o)
+  wrong-by layout false e n = wrong-layout layout i row (λ o. either (eq-eqb (getD row 0 0) (numberIn layout) o) e)
+
+  second : getD row 1 0 ≡ getD rows (i * width + 1) 0
+  second = row-word rows i 1 (lit< tt)
+
+  module _ (layout : Layout) {p : ℕ} (e : p ≡ paired rows (i * width)) where
+    pub other : (p ≡ own layout → ⊥) → Plain layout i row false
+    unfolding paired
+    other n =
+        not-right layout i row
+        (wrong-by layout (eqb (getD row 0 0) (numberIn layout)) refl
+        (λ o d. n (e ∙ rw (← first, ← second, o, d) (omega arith) ∙ sym (own-is layout))))
+
+    module _ (o : p ≡ own layout) where
+      is-own : getD row 0 0 ≡ numberIn layout
+      unfolding paired
+      is-own =
+          let k = number-small layout in
+          let s = u (i * width) in
+          let q : getD rows (i * width) 0 + getD rows (i * width + 1) 0 * 4294967296 ≡ i * 4294967296 + numberIn layout = sym e ∙ o ∙ own-is layout in
+          first ∙ omega arith
+
+      is-number : getD row 1 0 ≡ i
+      unfolding paired
+      is-number =
+          let k = number-small layout in
+          let s = u (i * width) in
+          let q : getD rows (i * width) 0 + getD rows (i * width + 1) 0 * 4294967296 ≡ i * 4294967296 + numberIn layout = sym e ∙ o ∙ own-is layout in
+          second ∙ omega arith
+
       rights : {k : ℕ} → k ≡ amiss layout i row → eqb k 0 ≡ rightRow layout i row
-      rights e = none-amiss layout i row (first ∙ o) (row-word rows i 1 (lit< tt) ∙ d) e
+      rights d = none-amiss layout i row is-own is-number d
 
-      -- by the rest: it goes inline exactly when it is plain, and then nothing is amiss
-      plain-by : {r : Bool} → r ≡ goesInline layout row → (goesInline layout row ≡ true → 0 ≡ amiss layout i row) → Plain layout i row r
-      plain-by e f =
-          record {
-            right = λ h. sym (rights (f (sym e ∙ h)));
-            inline = λ h. sym e ∙ h;
-            large = λ h g. sym e ∙ h;
-          }
+  pub legacy-plain : {p : ℕ} {r : Bool} → p ≡ paired rows (i * width) → p ≡ own lay.Legacy16 → r ≡ clear plainMasks row width → Plain lay.Legacy16 i row r
+  legacy-plain f o e =
+      record {
+        right =
+            λ h.
+            let t = plain-inline row small (sym e ∙ h) in
+            let z : inTheWay lay.Legacy16 row ≡ 0 = eqb-true (inTheWay lay.Legacy16 row) 0 (none-in-the-way lay.Legacy16 row refl ∙ sym legacy-goes ∙ t .0) in
+            let y = sym (legacy-way row) ∙ z in
+            sym (rights lay.Legacy16 f o {k = 0} (legacy-amiss i row (omega (arith, t))));
+        inline = λ h. sym legacy-goes ∙ plain-inline row small (sym e ∙ h) .0;
+        large =
+            λ h g.
+            let z : amiss lay.Legacy16 i row ≡ 0 = eqb-true (amiss lay.Legacy16 i row) 0 (rights lay.Legacy16 f o refl ∙ g) in
+            not-inline (goesInline lay.Legacy16 row) (λ q. either (inline-plain row small i z (legacy-goes ∙ q)) (sym e ∙ h));
+      }
 
-  module _ (o : getD rows (i * width) 0 ≡ 0) (d : getD rows (i * width + 1) 0 ≡ i) where
-    none-there : {k : ℕ} → eqb k 0 ≡ true → k ≡ 0
-    none-there {k} e = eqb-true k 0 e
-
-    pub legacy-zeros : clear legacyZeros row width ≡ false → Plain lay.Legacy16 i row false
-    legacy-zeros c =
-        record {
-          right = λ h. either h refl;
-          inline = λ h. either h refl;
-          large = λ h g. either (clear-zeros row small i (none-there (rights lay.Legacy16 o d refl ∙ g))) c;
-        }
-
-    pub legacy-plain : {r : Bool} → clear legacyZeros row width ≡ true → r ≡ clear legacyMasks row width → Plain lay.Legacy16 i row r
-    legacy-plain c e =
-        plain-by lay.Legacy16 o d (e ∙ legacy-goes)
-        (λ g.
-        let z : inTheWay lay.Legacy16 row ≡ 0 = none-there (none-in-the-way lay.Legacy16 row refl ∙ g) in
-        let y = sym (legacy-way row) ∙ z in
-        let t = zeros-clear row small c in
-        legacy-amiss i row (omega (arith, t)))
-
-  module _ (o : getD rows (i * width) 0 ≡ 1) (d : getD rows (i * width + 1) 0 ≡ i) where
-    pub modern-plain : {r : Bool} → r ≡ clear modernMasks row width → Plain lay.Modern12 i row r
-    modern-plain e =
-        plain-by lay.Modern12 o d (e ∙ modern-goes)
-        (λ g.
-        let z : inTheWay lay.Modern12 row ≡ 0 = eqb-true (inTheWay lay.Modern12 row) 0 (none-in-the-way lay.Modern12 row refl ∙ g) in
-        let y = sym (modern-way row) ∙ z in
-        modern-amiss i row (omega arith))
+  pub modern-plain : {p : ℕ} {r : Bool} → p ≡ paired rows (i * width) → p ≡ own lay.Modern12 → r ≡ clear modernMasks row width → Plain lay.Modern12 i row r
+  modern-plain f o e =
+      record {
+        right =
+            λ h.
+            let z : inTheWay lay.Modern12 row ≡ 0 = eqb-true (inTheWay lay.Modern12 row) 0 (none-in-the-way lay.Modern12 row refl ∙ sym modern-goes ∙ sym e ∙ h) in
+            let y = sym (modern-way row) ∙ z in
+            sym (rights lay.Modern12 f o {k = 0} (modern-amiss i row (omega arith)));
+        inline = λ h. sym modern-goes ∙ sym e ∙ h;
+        large = λ h g. sym modern-goes ∙ sym e ∙ h;
+      }

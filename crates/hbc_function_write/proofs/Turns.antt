@@ -13,8 +13,9 @@ use Rattle.hbc_function_record.specs.Record.{largeOf}
 use Rattle.hbc_function_header.specs.Header.{headerAt}
 use Rattle.hbc_function_bytes.specs.Bytes.{valuesIn, goesInline, inlineNumber, inlineBytes, largeBytes, pointerTo}
 use Rattle.hbc_function_write.specs.Write.{rounded, freeAt, placeAt, headOf, putLarge, putHeader, putHeaders}
-use Rattle.hbc_function_write.specs.Private.{wordSizes, fourOf, freeAfter, rowPut, PutRow}
-use Rattle.hbc_function_write.proofs.Puts.{header-put}
+use Rattle.hbc_function_put.specs.Put.{wordSizes, fourOf}
+use Rattle.hbc_function_put.proofs.Puts.{header-put}
+use Rattle.hbc_function_write.specs.Private.{freeAfter, rowPut, PutRow}
 
 module _ (layout : Layout) (at free : ℕ) (w s : List ℕ) where
   pub row-inline : {ws t : List ℕ} → goesInline layout w ≡ true → ws ≡ wordsOf 4 (inlineNumber layout (valuesIn layout w))

@@ -1,5 +1,5 @@
 -- What only private contracts cite: no promise rests on it.
-use Prim.Native.Nat.{ℕ, zero, suc, _+_, _≤_, _<_}
+use Prim.Native.Nat.{ℕ, zero, suc, _+_, _*_, _/_, _%_, _^_, _≤_, _<_}
 use mathlib.Core.Path.{_≡_}
 use mathlib.Core.List.{List, [], _∷_}
 use mathlib.Core.Bool.{Bool, true, false, cond}
@@ -26,11 +26,24 @@ pub record Room (layout : Layout) (f : ℕ → List ℕ) (start large count n : 
 pub record Ends (layout : Layout) (f : ℕ → List ℕ) (large count : ℕ) : Type 0 where
   pub right : (i : ℕ) → i < count → rightEnd layout f large i ≡ true
 
+-- every row goes inline
+pub record Inlines (layout : Layout) (f : ℕ → List ℕ) (count : ℕ) : Type 0 where
+  pub all : (i : ℕ) → i < count → goesInline layout (f i) ≡ true
+
 -- a modern row that is not refused 14 and is large has an info_offset
 abbrev pub Ended : List ℕ → Type 0
 Ended w = goesInline lay.Modern12 w ≡ false → getD w ROW_INFO_OFFSET 0 ≡ 0 → ⊥
 
 -- ---- which rows go inline
+
+-- two words from a place on, the first in the low half
+unfoldable pub paired : List ℕ → ℕ → ℕ
+paired s k = getD s k 0 + getD s (k + 1) 0 * 2 ^ 32
+
+-- the words of which these are the pairs
+abbrev pub halves : List ℕ → List ℕ
+halves [] = []
+halves (p ∷ ps) = p % 2 ^ 32 ∷ p / 2 ^ 32 ∷ halves ps
 
 -- in words 0 to n - 1 of a row w none of the bits is set that the masks name
 unfoldable pub clear : List ℕ → List ℕ → ℕ → Bool
@@ -82,14 +95,6 @@ unfoldable pub nextPlan : Layout → List ℕ → ℕ → Plan → Plan
 nextPlan layout w i p = cond (goesInline layout w) p (largePlan layout w i p)
 
 -- ---- the writing
-
--- an inline header in words: the bytes of each
-abbrev pub wordSizes : Layout → List ℕ
-wordSizes lay.Legacy16 = 4 ∷ 4 ∷ 4 ∷ 4 ∷ []
-wordSizes lay.Modern12 = 4 ∷ 4 ∷ 4 ∷ []
-
-abbrev pub fourOf : List ℕ → List ℕ
-fourOf w = getD w 0 0 ∷ getD w 1 0 ∷ getD w 2 0 ∷ getD w 3 0 ∷ []
 
 -- from where on large headers go after a row of words w
 unfoldable pub freeAfter : Layout → List ℕ → ℕ → ℕ

@@ -1,6 +1,6 @@
 // The table of functions, written from lent rows into a lent buffer: checked first, written after.
 ghost use mathlib.Core.Path.{_≡_};
-ghost use mathlib.Core.Bool.{false};
+ghost use mathlib.Core.Bool.{true, false};
 ghost use Prim.Native.Nat.{_+_, _*_, _^_, _≤_, _<_, min};
 ghost use lib.ListN.{length};
 ghost use Rattle.hbc_io.specs.Answer.{gives};
@@ -10,12 +10,12 @@ ghost use Rattle.hbc_function_record.specs.Row.{width};
 ghost use Rattle.hbc_function_record.specs.declared.Layout.the-variants.{Legacy16, Modern12};
 ghost use Rattle.hbc_function_bytes.specs.Bytes.{goesInline};
 ghost use Rattle.hbc_function_write.specs.Write.{saysWrote, rounded, endAt, putHeaders, saysEnd, rightRows, WriteFunctions};
-ghost use Rattle.hbc_function_write.specs.Private.{Room, Ends, Ended, clear, Plain, far, largePlan, lookedAt, PutRow};
-use crate::put::put_header;
-use crate::put::put_large;
+ghost use Rattle.hbc_function_write.specs.Private.{Room, Ends, Ended, Inlines, paired, halves, clear, Plain, far, largePlan, lookedAt, PutRow};
 use hbc_function_bytes::inline_words;
 use hbc_function_bytes::pointer_words;
 use hbc_function_bytes::row_is_right;
+use hbc_function_put::put_header;
+use hbc_function_put::put_large;
 use hbc_function_record::Layout;
 use hbc_function_record::ROW_INFO_OFFSET;
 use hbc_function_record::WIDTH;
@@ -24,8 +24,6 @@ use hbc_function_record::large_size;
 use hbc_io::LIMIT;
 use hbc_io::Refusal;
 use hbc_io::refuse;
-
-mod put;
 
 // The end of what was written, or the refusal.
 pub enum Wrote {
@@ -96,78 +94,72 @@ fn row_at(rows: &[u32], id: u32) -> [u32; WIDTH]
     ]
 }
 
-// Of the flags: all above a byte, and the overflow bit.
-const FLAGS_BITS: u32 = 0xFFFF_FF20;
+// Two words from `at` on, the first in the low half: a compiler makes one load of it.
+fn pair(rows: &[u32], at: usize) -> u64
+    requires { ⌜ at + 2 ≤ length (now rows) ⌝ }
+    ensures { λ r. ⌜ r ≡ paired (now (rows .entry)) at ⌝ }
+{
+    (rows[at] as u64) + (rows[at + 1] as u64) * 0x1_0000_0000
+}
 
-// The bits of each word that are clear in a row that goes inline: those above a field's width, the overflow bit, and in modern all of info_offset.
-const LEGACY_BITS: [u32; WIDTH] = [
+// The pairs of a row.
+const PAIRS: usize = 8;
+
+// The bits that are clear in a row that goes inline, pair by pair: those above a field's width, the overflow bit, and in modern all of info_offset.
+const LEGACY_PLACE: u64 = 0xFFFF_FF80_FE00_0000;
+
+const LEGACY_SIZE: u64 = 0xFFFE_0000_FFFF_8000;
+
+const LEGACY_FLAGS: u64 = 0xFFFF_FF00_FFFF_FF20;
+
+const BYTES: u64 = 0xFFFF_FF00_FFFF_FF00;
+
+const ALL: u64 = 0xFFFF_FFFF_FFFF_FFFF;
+
+const LEGACY_BITS: [u64; PAIRS] = [
     0,
-    0,
-    0xFE00_0000,
-    0xFFFF_FF80,
-    0xFFFF_8000,
-    0xFFFE_0000,
-    0xFE00_0000,
-    0xFFFF_FF80,
-    FLAGS_BITS,
-    0xFFFF_FF00,
-    0xFFFF_FF00,
-    0xFFFF_FF00,
-    0,
-    0,
+    LEGACY_PLACE,
+    LEGACY_SIZE,
+    LEGACY_PLACE,
+    LEGACY_FLAGS,
+    BYTES,
     0,
     0,
 ];
 
-const MODERN_BITS: [u32; WIDTH] = [
+// And where the four zeros are besides: one test of a row that is right and goes inline.
+const LEGACY_PLAIN: [u64; PAIRS] = [
     0,
-    0,
-    0xFE00_0000,
-    0xFFFF_FFE0,
-    0xFFFF_C000,
-    0xFFFF_FF00,
-    0xFFFF_FFFF,
-    0xFFFF_FF00,
-    FLAGS_BITS,
-    0xFFFF_FFFC,
-    0xFFFF_FFE0,
-    0xFFFF_FFE0,
-    0xFFFF_FF00,
-    0xFFFF_FFC0,
-    0xFFFF_FFFE,
-    0xFFFF_FFFE,
+    LEGACY_PLACE,
+    LEGACY_SIZE,
+    LEGACY_PLACE,
+    LEGACY_FLAGS,
+    BYTES,
+    ALL,
+    ALL,
 ];
 
-// Those of a legacy row's four zeros.
-const LEGACY_ZEROS: [u32; WIDTH] = [
+const MODERN_BITS: [u64; PAIRS] = [
     0,
-    0,
-    0,
-    0,
-    0,
-    0,
-    0,
-    0,
-    0,
-    0,
-    0,
-    0,
-    0xFFFF_FFFF,
-    0xFFFF_FFFF,
-    0xFFFF_FFFF,
-    0xFFFF_FFFF,
+    0xFFFF_FFE0_FE00_0000,
+    0xFFFF_FF00_FFFF_C000,
+    0xFFFF_FF00_FFFF_FFFF,
+    0xFFFF_FFFC_FFFF_FF20,
+    0xFFFF_FFE0_FFFF_FFE0,
+    0xFFFF_FFC0_FFFF_FF00,
+    0xFFFF_FFFE_FFFF_FFFE,
 ];
 
-// Whether none of these bits is set in row `id`: or-ed and asked once, so that there is one branch.
-fn is_clear(rows: &[u32], id: u32, masks: [u32; WIDTH]) -> bool
+// Whether none of these bits is set in row `id`: or-ed and asked once, so that there is one branch; by pairs, so that there is half the work.
+fn is_clear(rows: &[u32], id: u32, masks: [u64; PAIRS]) -> bool
     requires { ⌜ id * width + width ≤ length (now rows) ⌝ }
-    ensures { λ r. ⌜ r ≡ clear masks (rowAt width (now (rows .entry)) id) width ⌝ }
+    ensures { λ r. ⌜ r ≡ clear (halves masks) (rowAt width (now (rows .entry)) id) width ⌝ }
 {
     let at = (id as usize) * WIDTH;
-    let mut set: u32 = 0;
+    let mut set: u64 = 0;
     let mut k: usize = 0;
-    while k < WIDTH {
-        set = set | (rows[at + k] & masks[k]);
+    while k < PAIRS {
+        set = set | (pair(rows, at + k * 2) & masks[k]);
         k += 1;
     }
     set == 0
@@ -178,28 +170,17 @@ fn is_plain_legacy(rows: &[u32], id: u32) -> bool
     requires { ⌜ id * width + width ≤ length (now rows) ⌝ }
     ensures { λ r. ⌜ Plain Legacy16 id (rowAt width (now (rows .entry)) id) r ⌝ }
 {
-    let at = (id as usize) * WIDTH;
-    if rows[at] != 0 {
+    if pair(rows, (id as usize) * WIDTH) != (id as u64) * 0x1_0000_0000 {
         return false;
     }
-    if rows[at + 1] != id {
-        return false;
-    }
-    if !is_clear(rows, id, LEGACY_ZEROS) {
-        return false;
-    }
-    is_clear(rows, id, LEGACY_BITS)
+    is_clear(rows, id, LEGACY_PLAIN)
 }
 
 fn is_plain_modern(rows: &[u32], id: u32) -> bool
     requires { ⌜ id * width + width ≤ length (now rows) ⌝ }
     ensures { λ r. ⌜ Plain Modern12 id (rowAt width (now (rows .entry)) id) r ⌝ }
 {
-    let at = (id as usize) * WIDTH;
-    if rows[at] != 1 {
-        return false;
-    }
-    if rows[at + 1] != id {
+    if pair(rows, (id as usize) * WIDTH) != (id as u64) * 0x1_0000_0000 + 1 {
         return false;
     }
     is_clear(rows, id, MODERN_BITS)
@@ -327,31 +308,50 @@ fn check_rows(rows: &[u32], layout: Layout, count: u32, large: usize, table: usi
     }
 }
 
+// Whether a legacy row goes inline: not asked of a table in which all do.
+fn is_inline(rows: &[u32], id: u32, all: bool) -> bool
+    requires { ⌜ id * width + width ≤ length (now rows) ⌝ }
+    requires { ⌜ (all ≡ true → goesInline Legacy16 (rowAt width (now rows) id) ≡ true) ⌝ }
+    ensures { λ r. ⌜ r ≡ goesInline Legacy16 (rowAt width (now (rows .entry)) id) ⌝ }
+{
+    if all {
+        return true;
+    }
+    is_clear(rows, id, LEGACY_BITS)
+}
+
 // The headers of row `id`, the inline one at `at`, and from where on the next large one goes.
-fn put_legacy_row(buffer: &mut [u8], rows: &[u32], id: u32, at: usize, free: usize) -> usize
+fn put_legacy_row(
+    buffer: &mut [u8],
+    rows: &[u32],
+    id: u32,
+    at: usize,
+    free: usize,
+    all: bool,
+) -> usize
     requires { ⌜ id * width + width ≤ length (now rows) ⌝ }
     requires { ⌜ at + sizeOf Legacy16 ≤ length (now buffer) ⌝ }
     requires { ⌜ (goesInline Legacy16 (rowAt width (now rows) id) ≡ false → rounded free + largeOf Legacy16 ≤ length (now buffer)) ⌝ }
+    requires { ⌜ (all ≡ true → goesInline Legacy16 (rowAt width (now rows) id) ≡ true) ⌝ }
     ensures { λ r. ⌜ PutRow Legacy16 at free (rowAt width (now (rows .entry)) id) (now (buffer .entry)) r (now (buffer .exit)) ⌝ }
 {
-    if is_clear(rows, id, LEGACY_BITS) {
+    if is_inline(rows, id, all) {
         put_header(
-            buffer,
+            &mut buffer[at..at + 16],
             Layout::Legacy16,
-            at,
             inline_words(row_at(rows, id), Layout::Legacy16),
         );
         return free;
     }
     let place = rounded_up(free);
     put_header(
-        buffer,
+        &mut buffer[at..at + 16],
         Layout::Legacy16,
-        at,
         pointer_words(place, Layout::Legacy16),
     );
-    put_large(buffer, Layout::Legacy16, place, row_at(rows, id));
-    place + large_size(Layout::Legacy16)
+    let end = place + 31;
+    put_large(&mut buffer[place..end], Layout::Legacy16, row_at(rows, id));
+    end
 }
 
 // In modern the info_offset tells which, since no row was refused 14.
@@ -364,34 +364,41 @@ fn put_modern_row(buffer: &mut [u8], rows: &[u32], id: u32, at: usize, free: usi
 {
     if rows[(id as usize) * WIDTH + ROW_INFO_OFFSET] == 0 {
         put_header(
-            buffer,
+            &mut buffer[at..at + 12],
             Layout::Modern12,
-            at,
             inline_words(row_at(rows, id), Layout::Modern12),
         );
         return free;
     }
     let place = rounded_up(free);
     put_header(
-        buffer,
+        &mut buffer[at..at + 12],
         Layout::Modern12,
-        at,
         pointer_words(place, Layout::Modern12),
     );
-    put_large(buffer, Layout::Modern12, place, row_at(rows, id));
-    place + large_size(Layout::Modern12)
+    let end = place + 37;
+    put_large(&mut buffer[place..end], Layout::Modern12, row_at(rows, id));
+    end
 }
 
-// All rows' headers, where there is room for them.
-fn put_legacy_rows(buffer: &mut [u8], rows: &[u32], start: usize, count: u32, large: usize)
+// All rows' headers, where there is room for them; `all`: all go inline.
+fn put_legacy_rows(
+    buffer: &mut [u8],
+    rows: &[u32],
+    start: usize,
+    count: u32,
+    large: usize,
+    all: bool,
+)
     requires { ⌜ count * width ≤ length (now rows) ⌝ }
     requires { ⌜ Room Legacy16 (rowAt width (now rows)) start large count (length (now buffer)) ⌝ }
+    requires { ⌜ (all ≡ true → Inlines Legacy16 (rowAt width (now rows)) count) ⌝ }
     ensures { λ _. ⌜ now (buffer .exit) ≡ putHeaders Legacy16 (rowAt width (now (rows .entry))) start large count (now (buffer .entry)) ⌝ }
 {
     let mut free = large;
     let mut id: u32 = 0;
     while id < count {
-        free = put_legacy_row(buffer, rows, id, start + (id as usize) * 16, free);
+        free = put_legacy_row(buffer, rows, id, start + (id as usize) * 16, free, all);
         id += 1;
     }
 }
@@ -410,14 +417,23 @@ fn put_modern_rows(buffer: &mut [u8], rows: &[u32], start: usize, count: u32, la
     }
 }
 
-fn put_rows(buffer: &mut [u8], rows: &[u32], layout: Layout, start: usize, count: u32, large: usize)
+fn put_rows(
+    buffer: &mut [u8],
+    rows: &[u32],
+    layout: Layout,
+    start: usize,
+    count: u32,
+    large: usize,
+    all: bool,
+)
     requires { ⌜ count * width ≤ length (now rows) ⌝ }
     requires { ⌜ Room layout (rowAt width (now rows)) start large count (length (now buffer)) ⌝ }
     requires { ⌜ Ends layout (rowAt width (now rows)) large count ⌝ }
+    requires { ⌜ (all ≡ true → Inlines layout (rowAt width (now rows)) count) ⌝ }
     ensures { λ _. ⌜ now (buffer .exit) ≡ putHeaders layout (rowAt width (now (rows .entry))) start large count (now (buffer .entry)) ⌝ }
 {
     match layout {
-        Layout::Legacy16 => put_legacy_rows(buffer, rows, start, count, large),
+        Layout::Legacy16 => put_legacy_rows(buffer, rows, start, count, large, all),
         Layout::Modern12 => put_modern_rows(buffer, rows, start, count, large),
     }
 }
@@ -452,7 +468,7 @@ pub fn write_functions(
             if buffer.len() < end {
                 return Wrote::Refused(refuse(4, 0));
             }
-            put_rows(buffer, rows, layout, start, count, large);
+            put_rows(buffer, rows, layout, start, count, large, end == table);
             Wrote::To(end)
         }
     }

@@ -11,7 +11,7 @@ abbrev Inv-loop : tie.InvT-loop
 Inv-loop rows id masks at set₀ k₀ set k = Clearing (rowAt width rows id) masks k set
 
 abbrev μ-loop : tie.MeasureT-loop
-μ-loop rows id masks at set₀ k₀ set k = 16 - k
+μ-loop rows id masks at set₀ k₀ set k = 8 - k
 
 mul-at : tie.Need-mul-at Inv-loop μ-loop
 mul-at c = omega arith
@@ -19,17 +19,17 @@ mul-at c = omega arith
 loop-holds : tie.Need-loop-holds Inv-loop μ-loop
 loop-holds c = clearing-first _ _
 
-add-set : tie.Need-add-set Inv-loop μ-loop
-add-set c = omega (arith, c .before .loop .inv .within)
+mul-pair : tie.Need-mul-pair Inv-loop μ-loop
+mul-pair c = omega (arith, c .before .loop .inv .within)
+
+add-pair : tie.Need-add-pair Inv-loop μ-loop
+add-pair c = omega (arith, c .before .loop .inv .within)
+
+pair-requires : tie.Need-pair-requires Inv-loop μ-loop
+pair-requires c κs = omega (arith, c .before .loop .inv .within)
 
 mul-set : tie.Need-mul-set Inv-loop μ-loop
 mul-set c = search needs
-
-shared-slice-read-set : tie.Need-shared-slice-read-set Inv-loop μ-loop
-shared-slice-read-set c = omega (arith, c .before .before .loop .inv .within)
-
-mul-set-2 : tie.Need-mul-set-2 Inv-loop μ-loop
-mul-set-2 c = search needs
 
 array-read-set : tie.Need-array-read-set Inv-loop μ-loop
 array-read-set c = omega arith
@@ -41,7 +41,7 @@ loop-less : tie.Need-loop-less Inv-loop μ-loop
 loop-less c = omega (arith, c .before .before .loop .inv .within)
 
 loop-again : tie.Need-loop-again Inv-loop μ-loop
-loop-again c = clearing-more (c .before .before .before .args .rows .now) (c .before .before .before .args .id) (c .before .before .loop .inv) (c .before .loop-test .taken)
+loop-again c = clearing-more (c .before .before .before .before .args .rows .now) (c .before .before .before .before .args .id) (λ j. omega (arith, c .before .before .before .shared-slice-known .given j)) (c .before .before .loop .inv) (c .before .loop-test .taken) (c .pair .ensures)
 
 returns : tie.Need-returns Inv-loop μ-loop
 returns c = clearing-done (c .before .loop .inv) (omega arith)
@@ -54,10 +54,10 @@ is-clear-spec =
     μ-loop
     mul-at
     loop-holds
-    add-set
+    mul-pair
+    add-pair
+    pair-requires
     mul-set
-    shared-slice-read-set
-    mul-set-2
     array-read-set
     add-k
     loop-less

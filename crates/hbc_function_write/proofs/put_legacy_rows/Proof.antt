@@ -7,10 +7,10 @@ use Rattle.hbc_function_write.proofs.put_legacy_rows.Statement.{stateme
 use Rattle.hbc_function_write.proofs.put_legacy_rows.Tie as tie
 
 abbrev Inv-loop : tie.InvT-loop
-Inv-loop buffer₀ rows start count large free₀ id₀ buffer free id = Writing rows lay.Legacy16 start count large buffer₀ id free buffer
+Inv-loop buffer₀ rows start count large all free₀ id₀ buffer free id = Writing rows lay.Legacy16 start count large buffer₀ id free buffer
 
 abbrev μ-loop : tie.MeasureT-loop
-μ-loop buffer₀ rows start count large free₀ id₀ buffer free id = count - id
+μ-loop buffer₀ rows start count large all free₀ id₀ buffer free id = count - id
 
 loop-holds : tie.Need-loop-holds Inv-loop μ-loop
 loop-holds c = writing-first _ _ _ _ _ _
@@ -19,13 +19,13 @@ cast-put-legacy-row : tie.Need-cast-put-legacy-row Inv-loop μ-loop
 cast-put-legacy-row c = search needs
 
 mul-put-legacy-row : tie.Need-mul-put-legacy-row Inv-loop μ-loop
-mul-put-legacy-row c = omega (arith, writing-head (c .before .before .loop .inv) (c .before .loop-test .taken) (c .before .before .before .before .before .pre .1))
+mul-put-legacy-row c = omega (arith, writing-head (c .before .before .loop .inv) (c .before .loop-test .taken) (c .before .before .before .before .before .pre .1 .0))
 
 add-put-legacy-row : tie.Need-add-put-legacy-row Inv-loop μ-loop
-add-put-legacy-row c = omega (arith, writing-head (c .before .before .loop .inv) (c .before .loop-test .taken) (c .before .before .before .before .before .pre .1))
+add-put-legacy-row c = omega (arith, writing-head (c .before .before .loop .inv) (c .before .loop-test .taken) (c .before .before .before .before .before .pre .1 .0))
 
 put-legacy-row-requires : tie.Need-put-legacy-row-requires Inv-loop μ-loop
-put-legacy-row-requires c κs = (omega (arith, c .before .before .loop .inv .within), (writing-head (c .before .before .loop .inv) (c .before .loop-test .taken) (c .before .before .before .before .before .pre .1), λ e. writing-large (c .before .before .loop .inv) (c .before .loop-test .taken) (c .before .before .before .before .before .pre .1) e))
+put-legacy-row-requires c κs = (omega (arith, c .before .before .loop .inv .within), (writing-head (c .before .before .loop .inv) (c .before .loop-test .taken) (c .before .before .before .before .before .pre .1 .0), ((λ e. writing-large (c .before .before .loop .inv) (c .before .loop-test .taken) (c .before .before .before .before .before .pre .1 .0) e), λ e. c .before .before .before .before .before .pre .1 .1 e .all _ (c .before .loop-test .taken))))
 
 add-id : tie.Need-add-id Inv-loop μ-loop
 add-id c = omega arith

@@ -6,13 +6,13 @@ enum-told : tie.Need-enum-told
 enum-told c = search needs
 
 put-legacy-rows-requires : tie.Need-put-legacy-rows-requires
-put-legacy-rows-requires c κs = (c .before .before .before .before .before .pre .0, rw (c .before .enum-told .given .1) at (c .before .before .before .before .before .pre .1 .0))
+put-legacy-rows-requires c κs = (c .before .before .before .before .before .pre .0, (rw (c .before .enum-told .given .1) at (c .before .before .before .before .before .pre .1 .0), λ e. rw (c .before .enum-told .given .1) at (c .before .before .before .before .before .pre .1 .1 .1 e)))
 
 enum-told-2 : tie.Need-enum-told-2
 enum-told-2 c = search needs
 
 put-modern-rows-requires : tie.Need-put-modern-rows-requires
-put-modern-rows-requires c κs = (c .before .before .before .before .before .pre .0, (rw (c .before .enum-told2 .given .1) at (c .before .before .before .before .before .pre .1 .0), rw (c .before .enum-told2 .given .1) at (c .before .before .before .before .before .pre .1 .1)))
+put-modern-rows-requires c κs = (c .before .before .before .before .before .pre .0, (rw (c .before .enum-told2 .given .1) at (c .before .before .before .before .before .pre .1 .0), rw (c .before .enum-told2 .given .1) at (c .before .before .before .before .before .pre .1 .1 .0)))
 
 same-length : tie.Need-same-length
 same-length c = search needs

@@ -4,7 +4,7 @@ use Rattle.hbc_io.specs.Answer.{refuses}
 use Rattle.hbc_io.proofs.Exits.{stop, past, given, refused}
 use Rattle.hbc_function_write.specs.Write.{writeAnswer}
 use Rattle.hbc_function_write.proofs.Places.{table-small}
-use Rattle.hbc_function_write.proofs.Far.{call-refuses, call-before, call-short, call-fits, call-ends, call-room}
+use Rattle.hbc_function_write.proofs.Far.{call-refuses, call-before, call-short, call-fits, call-ends, call-room, call-inline}
 use borrow.Author.Needs.{needs}
 use Rattle.hbc_function_write.proofs.write_functions.Statement.{statement}
 use Rattle.hbc_function_write.proofs.write_functions.Tie as tie
@@ -69,7 +69,7 @@ unfolding writeAnswer
 returns-5 c = past _ _ _ _ (omega arith) (past _ _ _ _ (omega arith) (past _ _ _ _ (omega arith) (refused refl (call-short (c .before .before .before .before .before .before .before .before .before .before .before .before .before .before .args .rows .now) (c .before .before .before .before .before .before .before .before .before .before .before .before .before .before .args .layout) (c .before .before .before .before .before .before .before .before .before .before .before .before .before .before .args .start) (c .before .before .before .before .before .before .before .before .before .before .before .before .before .before .args .count) (c .before .before .before .before .before .before .before .before .before .before .before .before .before .before .args .large) (c .before .before .before .before .before .before .before .before .before .before .before .before .before .before .args .buffer .now) (c .before .before .before .before .before .before .before .before .header-size .ensures) (c .before .before .before .before .before .before .before .nearest .ensures) (λ k. omega (arith, c .before .before .before .before .before .before .before .before .before .before .before .before .before .shared-slice-known .given k)) (omega arith) _ (c .before .before .before .before .before .before .check-rows .ensures) (c .before .before .before .before .end .given .1) (omega arith) (c .before .if5 .taken) (c .refuse5 .ensures)))))
 
 put-rows-requires : tie.Need-put-rows-requires
-put-rows-requires c κs = (omega arith, (call-room (c .before .before .before .before .before .before .before .before .before .before .before .before .before .before .args .rows .now) (c .before .before .before .before .before .before .before .before .before .before .before .before .before .before .args .layout) (c .before .before .before .before .before .before .before .before .before .before .before .before .before .before .args .start) (c .before .before .before .before .before .before .before .before .before .before .before .before .before .before .args .count) (c .before .before .before .before .before .before .before .before .before .before .before .before .before .before .args .large) (c .before .before .before .before .before .before .before .before .before .before .before .before .before .before .args .buffer .now) (c .before .before .before .before .before .before .before .before .header-size .ensures) (c .before .before .before .before .before .before .before .nearest .ensures) (λ k. omega (arith, c .before .before .before .before .before .before .before .before .before .before .before .before .before .shared-slice-known .given k)) (omega arith) _ (c .before .before .before .before .before .before .check-rows .ensures) (c .before .before .before .before .end .given .1) (omega arith) (omega arith), call-ends (c .before .before .before .before .before .before .before .before .before .before .before .before .before .before .args .rows .now) (c .before .before .before .before .before .before .before .before .before .before .before .before .before .before .args .layout) (c .before .before .before .before .before .before .before .before .before .before .before .before .before .before .args .start) (c .before .before .before .before .before .before .before .before .before .before .before .before .before .before .args .count) (c .before .before .before .before .before .before .before .before .before .before .before .before .before .before .args .large) (c .before .before .before .before .before .before .before .before .before .before .before .before .before .before .args .buffer .now) (c .before .before .before .before .before .before .before .before .header-size .ensures) (c .before .before .before .before .before .before .before .nearest .ensures) (λ k. omega (arith, c .before .before .before .before .before .before .before .before .before .before .before .before .before .shared-slice-known .given k)) (omega arith) _ (c .before .before .before .before .before .before .check-rows .ensures) (c .before .before .before .before .end .given .1) (omega arith) (omega arith)))
+put-rows-requires c κs = (omega arith, (call-room (c .before .before .before .before .before .before .before .before .before .before .before .before .before .before .args .rows .now) (c .before .before .before .before .before .before .before .before .before .before .before .before .before .before .args .layout) (c .before .before .before .before .before .before .before .before .before .before .before .before .before .before .args .start) (c .before .before .before .before .before .before .before .before .before .before .before .before .before .before .args .count) (c .before .before .before .before .before .before .before .before .before .before .before .before .before .before .args .large) (c .before .before .before .before .before .before .before .before .before .before .before .before .before .before .args .buffer .now) (c .before .before .before .before .before .before .before .before .header-size .ensures) (c .before .before .before .before .before .before .before .nearest .ensures) (λ k. omega (arith, c .before .before .before .before .before .before .before .before .before .before .before .before .before .shared-slice-known .given k)) (omega arith) _ (c .before .before .before .before .before .before .check-rows .ensures) (c .before .before .before .before .end .given .1) (omega arith) (omega arith), (call-ends (c .before .before .before .before .before .before .before .before .before .before .before .before .before .before .args .rows .now) (c .before .before .before .before .before .before .before .before .before .before .before .before .before .before .args .layout) (c .before .before .before .before .before .before .before .before .before .before .before .before .before .before .args .start) (c .before .before .before .before .before .before .before .before .before .before .before .before .before .before .args .count) (c .before .before .before .before .before .before .before .before .before .before .before .before .before .before .args .large) (c .before .before .before .before .before .before .before .before .before .before .before .before .before .before .args .buffer .now) (c .before .before .before .before .before .before .before .before .header-size .ensures) (c .before .before .before .before .before .before .before .nearest .ensures) (λ k. omega (arith, c .before .before .before .before .before .before .before .before .before .before .before .before .before .shared-slice-known .given k)) (omega arith) _ (c .before .before .before .before .before .before .check-rows .ensures) (c .before .before .before .before .end .given .1) (omega arith) (omega arith), λ q. call-inline (c .before .before .before .before .before .before .before .before .before .before .before .before .before .before .args .rows .now) (c .before .before .before .before .before .before .before .before .before .before .before .before .before .before .args .layout) (c .before .before .before .before .before .before .before .before .before .before .before .before .before .before .args .start) (c .before .before .before .before .before .before .before .before .before .before .before .before .before .before .args .count) (c .before .before .before .before .before .before .before .before .before .before .before .before .before .before .args .large) (c .before .before .before .before .before .before .before .before .before .before .before .before .before .before .args .buffer .now) (c .before .before .before .before .before .before .before .before .header-size .ensures) (c .before .before .before .before .before .before .before .nearest .ensures) (λ k. omega (arith, c .before .before .before .before .before .before .before .before .before .before .before .before .before .shared-slice-known .given k)) (omega arith) _ (c .before .before .before .before .before .before .check-rows .ensures) (c .before .before .before .before .end .given .1) (omega arith) (omega arith) q)))
 
 returns-6 : tie.Need-returns-6
 unfolding writeAnswer

@@ -1,7 +1,7 @@
-use Rattle.hbc_function_write.proofs.Puts.{four-put}
+use Rattle.hbc_function_put.proofs.Puts.{four-put}
 use borrow.Author.Needs.{needs}
-use Rattle.hbc_function_write.proofs.put.put_four.Statement.{statement}
-use Rattle.hbc_function_write.proofs.put.put_four.Tie as tie
+use Rattle.hbc_function_put.proofs.put_four.Statement.{statement}
+use Rattle.hbc_function_put.proofs.put_four.Tie as tie
 
 put-word-requires : tie.Need-put-word-requires
 put-word-requires c κs = search needs

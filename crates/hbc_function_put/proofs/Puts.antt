@@ -1,19 +1,24 @@
 -- Words and bytes that are put one after another are the bytes of a header.
-use Prim.Native.Nat.{ℕ, zero, suc, _+_, _*_, _/_, _%_, _^_, _≤_, _<_}
+use Prim.Native.Nat.{ℕ, zero, suc, _+_, _-_, _*_, _/_, _%_, _^_, _≤_, _<_}
 use mathlib.Core.Path.{_≡_, refl, sym, ap, _∙_}
-use mathlib.Core.List.{List, [], _∷_, _++_, append-assoc}
+use mathlib.Core.List.{List, [], _∷_, _++_, append-assoc, append-nil}
 use native.Mathlib.Nat.{add-zero}
 use native.Mathlib.Omega.{arith}
-use lib.ListN.{length, set, getD}
+use lib.ListN.{length, set, getD, take, drop, length-drop, drop-of-length-le}
+use lib.Seq.{sets-eq, length-take-le, drop-drop}
 use Rattle.hbc_bits.specs.Fields.{bytesOf, wordsOf, laid}
 use Rattle.hbc_bits.proofs.Fields.{words-bytes}
+use lib.Dec.{eqb}
+use borrow.Author.Tests.{eq-eqb, ne-eqb}
+use borrow.Rule.Slice.PartMut.{putMid}
+use Rattle.hbc_io.proofs.Exits.{is-chosen, not-chosen}
 use Rattle.hbc_rows.specs.Rows.{put}
 use Rattle.hbc_rows.proofs.Puts.{puts-laid, put-then}
 use Rattle.hbc_function_record.specs.declared.Layout.{Layout}
 use Rattle.hbc_function_record.specs.declared.Layout.the-variants as lay
-use Rattle.hbc_function_record.specs.Record.{sizeOf}
+use Rattle.hbc_function_record.specs.Record.{sizeOf, largeOf}
 use Rattle.hbc_function_bytes.specs.Bytes.{valuesIn, inlineNumber, inlineBytes, largeBytes}
-use Rattle.hbc_function_write.specs.Private.{wordSizes, fourOf}
+use Rattle.hbc_function_put.specs.Put.{wordSizes, fourOf, headerPut, largePut}
 
 -- four stores
 pub four-stores : (s : List ℕ) (at x y z w : ℕ) → set (set (set (set s at x) (at + 1) y) (at + 2) z) (at + 3) w ≡ put at (x ∷ y ∷ z ∷ w ∷ []) s
@@ -121,3 +126,77 @@ module _ (at : ℕ) (s w : List ℕ) where
       let u = byte (w4 ++ w4 ++ 1 ∷ 1 ∷ []) (modernFront ++ modernBack ++ getD w 12 0 ∷ getD w 13 0 ∷ []) at 34 s refl refl (getD w 14 0) z c in
       let v = byte (w4 ++ w4 ++ 1 ∷ 1 ∷ 1 ∷ []) (modernFront ++ modernBack ++ getD w 12 0 ∷ getD w 13 0 ∷ getD w 14 0 ∷ []) at 35 s refl refl (getD w 15 0) u d in
       byte (w4 ++ w4 ++ 1 ∷ 1 ∷ 1 ∷ 1 ∷ []) (modernFront ++ modernBack ++ getD w 12 0 ∷ getD w 13 0 ∷ getD w 14 0 ∷ getD w 15 0 ∷ []) at 36 s refl refl (getD w 8 0) v e
+
+-- ---- bytes that are just as many
+
+-- all of them are put
+put-all : (bs b : List ℕ) → length b ≡ length bs → put 0 bs b ≡ bs
+unfolding put
+put-all bs b e =
+    let k : length b ≤ 0 + length bs = omega arith in
+    sets-eq bs b 0 (omega arith) ∙ ap (λ (u : List ℕ). bs ++ u) (drop-of-length-le b k) ∙ append-nil bs
+
+header-length : (layout : Layout) (ws : List ℕ) → length (laid (wordSizes layout) (fourOf ws)) ≡ sizeOf layout
+unfolding laid
+header-length lay.Legacy16 ws = refl
+header-length lay.Modern12 ws = refl
+
+large-length : (layout : Layout) (w : List ℕ) → length (largeBytes layout (valuesIn layout w)) ≡ largeOf layout
+unfolding laid largeBytes valuesIn
+large-length lay.Legacy16 w = refl
+large-length lay.Modern12 w = refl
+
+module _ (layout : Layout) (w b : List ℕ) where
+  pub header-none : (length b ≡ sizeOf layout → ⊥) → b ≡ headerPut layout w b
+  unfolding headerPut
+  header-none n = not-chosen (eqb (length b) (sizeOf layout)) (laid (wordSizes layout) (fourOf w)) b (ne-eqb (length b) (sizeOf layout) n) refl
+
+  pub header-whole : length b ≡ sizeOf layout → put 0 (laid (wordSizes layout) (fourOf w)) b ≡ headerPut layout w b
+  unfolding headerPut
+  header-whole e =
+      is-chosen (eqb (length b) (sizeOf layout)) (laid (wordSizes layout) (fourOf w)) b (eq-eqb (length b) (sizeOf layout) e)
+      (put-all (laid (wordSizes layout) (fourOf w)) b (e ∙ sym (header-length layout w)))
+
+  pub large-none : (length b ≡ largeOf layout → ⊥) → b ≡ largePut layout w b
+  unfolding largePut
+  large-none n = not-chosen (eqb (length b) (largeOf layout)) (largeBytes layout (valuesIn layout w)) b (ne-eqb (length b) (largeOf layout) n) refl
+
+  pub large-whole : length b ≡ largeOf layout → put 0 (largeBytes layout (valuesIn layout w)) b ≡ largePut layout w b
+  unfolding largePut
+  large-whole e =
+      is-chosen (eqb (length b) (largeOf layout)) (largeBytes layout (valuesIn layout w)) b (eq-eqb (length b) (largeOf layout) e)
+      (put-all (largeBytes layout (valuesIn layout w)) b (e ∙ sym (large-length layout w)))
+
+-- ---- a part of a buffer, lent and given back
+
+module _ (at n : ℕ) (b : List ℕ) (h : at + n ≤ length b) where
+  part-length : length (take (at + n - at) (drop at b)) ≡ n
+  part-length =
+      let k : at + n - at ≤ length (drop at b) = rw length-drop (omega arith) in
+      length-take-le (at + n - at) (drop at b) k ∙ omega arith
+
+  part-put : (bs : List ℕ) → length bs ≡ n → putMid at (at + n - at) b bs ≡ put at bs b
+  unfolding put
+  part-put bs e =
+      let m : at + (at + n - at) ≡ at + n = omega arith in
+      let l : at + length bs ≤ length b = omega arith in
+      sym (rw (drop-drop, m, sets-eq bs b at l, e, append-assoc))
+
+module _ (layout : Layout) (at : ℕ) (w b : List ℕ) {r : List ℕ} where
+  pub header-part : at + sizeOf layout ≤ length b → r ≡ headerPut layout w (take (at + sizeOf layout - at) (drop at b))
+      → putMid at (at + sizeOf layout - at) b r ≡ put at (laid (wordSizes layout) (fourOf w)) b
+  header-part h e =
+      let l = part-length at (sizeOf layout) b h in
+      ap (putMid at (at + sizeOf layout - at) b)
+      (e ∙ sym (header-whole layout w (take (at + sizeOf layout - at) (drop at b)) l)
+      ∙ put-all (laid (wordSizes layout) (fourOf w)) (take (at + sizeOf layout - at) (drop at b)) (l ∙ sym (header-length layout w)))
+      ∙ part-put at (sizeOf layout) b h (laid (wordSizes layout) (fourOf w)) (header-length layout w)
+
+  pub large-part : at + largeOf layout ≤ length b → r ≡ largePut layout w (take (at + largeOf layout - at) (drop at b))
+      → putMid at (at + largeOf layout - at) b r ≡ put at (largeBytes layout (valuesIn layout w)) b
+  large-part h e =
+      let l = part-length at (largeOf layout) b h in
+      ap (putMid at (at + largeOf layout - at) b)
+      (e ∙ sym (large-whole layout w (take (at + largeOf layout - at) (drop at b)) l)
+      ∙ put-all (largeBytes layout (valuesIn layout w)) (take (at + largeOf layout - at) (drop at b)) (l ∙ sym (large-length layout w)))
+      ∙ part-put at (largeOf layout) b h (largeBytes layout (valuesIn layout w)) (large-length layout w)

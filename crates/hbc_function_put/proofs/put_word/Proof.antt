@@ -1,9 +1,9 @@
 use native.Mathlib.Omega.{arith}
 use lib.ListN.{length-set}
-use Rattle.hbc_function_write.proofs.Puts.{four-stores}
+use Rattle.hbc_function_put.proofs.Puts.{four-stores}
 use borrow.Author.Needs.{needs}
-use Rattle.hbc_function_write.proofs.put.put_word.Statement.{statement}
-use Rattle.hbc_function_write.proofs.put.put_word.Tie as tie
+use Rattle.hbc_function_put.proofs.put_word.Statement.{statement}
+use Rattle.hbc_function_put.proofs.put_word.Tie as tie
 
 cast-buffer : tie.Need-cast-buffer
 cast-buffer c = search needs

@@ -1,7 +1,7 @@
-use Rattle.hbc_function_write.proofs.Puts.{legacy-large}
+use Rattle.hbc_function_put.proofs.Puts.{legacy-large}
 use borrow.Author.Needs.{needs}
-use Rattle.hbc_function_write.proofs.put.put_legacy.Statement.{statement}
-use Rattle.hbc_function_write.proofs.put.put_legacy.Tie as tie
+use Rattle.hbc_function_put.proofs.store_legacy.Statement.{statement}
+use Rattle.hbc_function_put.proofs.store_legacy.Tie as tie
 
 array-read-put-four : tie.Need-array-read-put-four
 array-read-put-four c = search needs
@@ -66,8 +66,8 @@ same-length c = search needs
 returns : tie.Need-returns
 returns c = legacy-large _ _ _ (c .before .before .before .before .before .before .before .before .before .before .before .before .before .before .before .before .before .before .put-four .ensures) (c .before .before .before .before .before .before .before .before .before .before .before .before .before .before .put-three .ensures) (c .before .before .before .before .before .before .before .before .before .before .put-byte .ensures) (c .before .before .before .before .before .before .put-byte2 .ensures) (c .before .before .put-byte3 .ensures)
 
-pub put-legacy-spec : {M : Type 1} → statement M
-put-legacy-spec =
+pub store-legacy-spec : {M : Type 1} → statement M
+store-legacy-spec =
     tie.close
     (tie.spec
     array-read-put-four

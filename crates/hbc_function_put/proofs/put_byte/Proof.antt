@@ -1,7 +1,7 @@
-use Rattle.hbc_function_write.proofs.Puts.{one-store}
+use Rattle.hbc_function_put.proofs.Puts.{one-store}
 use borrow.Author.Needs.{needs}
-use Rattle.hbc_function_write.proofs.put.put_byte.Statement.{statement}
-use Rattle.hbc_function_write.proofs.put.put_byte.Tie as tie
+use Rattle.hbc_function_put.proofs.put_byte.Statement.{statement}
+use Rattle.hbc_function_put.proofs.put_byte.Tie as tie
 
 cast-buffer : tie.Need-cast-buffer
 cast-buffer c = search needs

@@ -1,4 +1,4 @@
-// Words and bytes put into the buffer, where there is room for them: each word by four stores that a compiler makes one of.
+// A header put into the bytes that are lent for it: each word by four stores that a compiler makes one of.
 ghost use mathlib.Core.Path.{_≡_};
 ghost use mathlib.Core.List.{[], _∷_};
 ghost use Prim.Native.Nat.{_+_, _≤_};
@@ -8,7 +8,7 @@ ghost use Rattle.hbc_rows.specs.Rows.{put};
 ghost use Rattle.hbc_function_record.specs.Record.{sizeOf, largeOf};
 ghost use Rattle.hbc_function_record.specs.declared.Layout.the-variants.{Legacy16, Modern12};
 ghost use Rattle.hbc_function_bytes.specs.Bytes.{valuesIn, largeBytes};
-ghost use Rattle.hbc_function_write.specs.Private.{wordSizes, fourOf};
+ghost use Rattle.hbc_function_put.specs.Put.{wordSizes, fourOf, headerPut, largePut};
 use hbc_function_record::Layout;
 use hbc_function_record::ROW_ENVIRONMENT_SIZE;
 use hbc_function_record::ROW_FLAGS;
@@ -28,6 +28,8 @@ use hbc_function_record::ROW_SIZE;
 use hbc_function_record::ROW_WRITE;
 use hbc_function_record::ROW_WRITE_CACHE;
 use hbc_function_record::WIDTH;
+use hbc_function_record::header_size;
+use hbc_function_record::large_size;
 
 // The four bytes of a word.
 fn put_word(buffer: &mut [u8], at: usize, word: u32)
@@ -71,7 +73,7 @@ fn put_three(buffer: &mut [u8], at: usize, a: u32, b: u32, c: u32)
 }
 
 // The words of an inline header: four, or three.
-pub(crate) fn put_header(buffer: &mut [u8], layout: Layout, at: usize, words: [u32; 4])
+fn store_header(buffer: &mut [u8], layout: Layout, at: usize, words: [u32; 4])
     requires { ⌜ at + sizeOf layout ≤ length (now buffer) ⌝ }
     ensures { λ _. ⌜ now (buffer .exit) ≡ put at (laid (wordSizes layout) (fourOf words)) (now (buffer .entry)) ⌝ }
 {
@@ -81,7 +83,7 @@ pub(crate) fn put_header(buffer: &mut [u8], layout: Layout, at: usize, words: [u
     }
 }
 
-fn put_legacy(buffer: &mut [u8], at: usize, row: [u32; WIDTH])
+fn store_legacy(buffer: &mut [u8], at: usize, row: [u32; WIDTH])
     requires { ⌜ at + largeOf Legacy16 ≤ length (now buffer) ⌝ }
     ensures { λ _. ⌜ now (buffer .exit) ≡ put at (largeBytes Legacy16 (valuesIn Legacy16 row)) (now (buffer .entry)) ⌝ }
 {
@@ -105,7 +107,7 @@ fn put_legacy(buffer: &mut [u8], at: usize, row: [u32; WIDTH])
     put_byte(buffer, at + 30, row[ROW_FLAGS]);
 }
 
-fn put_modern(buffer: &mut [u8], at: usize, row: [u32; WIDTH])
+fn store_modern(buffer: &mut [u8], at: usize, row: [u32; WIDTH])
     requires { ⌜ at + largeOf Modern12 ≤ length (now buffer) ⌝ }
     ensures { λ _. ⌜ now (buffer .exit) ≡ put at (largeBytes Modern12 (valuesIn Modern12 row)) (now (buffer .entry)) ⌝ }
 {
@@ -133,12 +135,33 @@ fn put_modern(buffer: &mut [u8], at: usize, row: [u32; WIDTH])
 }
 
 // A row's large header.
-pub(crate) fn put_large(buffer: &mut [u8], layout: Layout, at: usize, row: [u32; WIDTH])
+fn store_large(buffer: &mut [u8], layout: Layout, at: usize, row: [u32; WIDTH])
     requires { ⌜ at + largeOf layout ≤ length (now buffer) ⌝ }
     ensures { λ _. ⌜ now (buffer .exit) ≡ put at (largeBytes layout (valuesIn layout row)) (now (buffer .entry)) ⌝ }
 {
     match layout {
-        Layout::Legacy16 => put_legacy(buffer, at, row),
-        Layout::Modern12 => put_modern(buffer, at, row),
+        Layout::Legacy16 => store_legacy(buffer, at, row),
+        Layout::Modern12 => store_modern(buffer, at, row),
     }
+}
+
+// The words of an inline header, into bytes that are just as many as it has; else nothing is written. Of a part that is so long at its caller's the
+// compiler leaves the test out.
+pub fn put_header(header: &mut [u8], layout: Layout, words: [u32; 4])
+    ensures { λ _. ⌜ now (header .exit) ≡ headerPut layout words (now (header .entry)) ⌝ }
+{
+    if header.len() != header_size(layout) {
+        return;
+    }
+    store_header(header, layout, 0, words);
+}
+
+// A row's large header, in the same way.
+pub fn put_large(header: &mut [u8], layout: Layout, row: [u32; WIDTH])
+    ensures { λ _. ⌜ now (header .exit) ≡ largePut layout row (now (header .entry)) ⌝ }
+{
+    if header.len() != large_size(layout) {
+        return;
+    }
+    store_large(header, layout, 0, row);
 }

@@ -1,7 +1,7 @@
-use Rattle.hbc_function_write.proofs.Puts.{three-of-four}
+use Rattle.hbc_function_put.proofs.Puts.{three-of-four}
 use borrow.Author.Needs.{needs}
-use Rattle.hbc_function_write.proofs.put.put_header.Statement.{statement}
-use Rattle.hbc_function_write.proofs.put.put_header.Tie as tie
+use Rattle.hbc_function_put.proofs.store_header.Statement.{statement}
+use Rattle.hbc_function_put.proofs.store_header.Tie as tie
 
 enum-told : tie.Need-enum-told
 enum-told c = search needs
@@ -48,8 +48,8 @@ same-length-2 c = search needs
 returns-2 : tie.Need-returns-2
 returns-2 c = rw (c .before .before .before .before .enum-told2 .given .1, ← three-of-four) (c .before .before .put-three .ensures)
 
-pub put-header-spec : {M : Type 1} → statement M
-put-header-spec =
+pub store-header-spec : {M : Type 1} → statement M
+store-header-spec =
     tie.close
     (tie.spec
     enum-told

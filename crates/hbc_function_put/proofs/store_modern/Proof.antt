@@ -1,7 +1,7 @@
-use Rattle.hbc_function_write.proofs.Puts.{modern-large}
+use Rattle.hbc_function_put.proofs.Puts.{modern-large}
 use borrow.Author.Needs.{needs}
-use Rattle.hbc_function_write.proofs.put.put_modern.Statement.{statement}
-use Rattle.hbc_function_write.proofs.put.put_modern.Tie as tie
+use Rattle.hbc_function_put.proofs.store_modern.Statement.{statement}
+use Rattle.hbc_function_put.proofs.store_modern.Tie as tie
 
 array-read-put-four : tie.Need-array-read-put-four
 array-read-put-four c = search needs
@@ -87,8 +87,8 @@ same-length c = search needs
 returns : tie.Need-returns
 returns c = modern-large _ _ _ (c .before .before .before .before .before .before .before .before .before .before .before .before .before .before .before .before .before .before .before .before .before .before .before .before .before .before .put-four .ensures) (c .before .before .before .before .before .before .before .before .before .before .before .before .before .before .before .before .before .before .before .before .before .before .put-four2 .ensures) (c .before .before .before .before .before .before .before .before .before .before .before .before .before .before .before .before .before .before .put-byte .ensures) (c .before .before .before .before .before .before .before .before .before .before .before .before .before .before .put-byte2 .ensures) (c .before .before .before .before .before .before .before .before .before .before .put-byte3 .ensures) (c .before .before .before .before .before .before .put-byte4 .ensures) (c .before .before .put-byte5 .ensures)
 
-pub put-modern-spec : {M : Type 1} → statement M
-put-modern-spec =
+pub store-modern-spec : {M : Type 1} → statement M
+store-modern-spec =
     tie.close
     (tie.spec
     array-read-put-four

@@ -1,7 +1,7 @@
-use Rattle.hbc_function_write.proofs.Puts.{three-put}
+use Rattle.hbc_function_put.proofs.Puts.{three-put}
 use borrow.Author.Needs.{needs}
-use Rattle.hbc_function_write.proofs.put.put_three.Statement.{statement}
-use Rattle.hbc_function_write.proofs.put.put_three.Tie as tie
+use Rattle.hbc_function_put.proofs.put_three.Statement.{statement}
+use Rattle.hbc_function_put.proofs.put_three.Tie as tie
 
 put-word-requires : tie.Need-put-word-requires
 put-word-requires c κs = search needs
