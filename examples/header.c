@@ -1,6 +1,7 @@
 /* What include/hbc.h says besides its prototypes, as a caller meets it: names, what a refused call leaves, the two modes
- * of strings, what a refused refresh asks for, what stands for no large header, what is written and what is not. C99 and
- * C++. Prints nothing; at the first test that fails its line, and then ends with status 1. */
+ * of strings, which LEB128 numbers are exact, what a refused refresh asks for, what stands for no large header, what is
+ * written and what is not. C99 and C++. Prints nothing; at the first test that fails its line, and then ends with
+ * status 1. */
 #include <stdio.h>
 #include <string.h>
 
@@ -43,14 +44,14 @@ static int refusals(void)
 {
     static const uint8_t bytes[12] = {0x80, 0x80, 0x80, 0x80, 0x80, 0x80, 0x80, 0x80, 0x80, 0x80, 0x80, 0x80};
     static const uint32_t small[] = {255u << 24}, none[2] = {0, 0};
-    uint32_t rows[HBC_FUNCTION_WORDS], kinds[1];
+    uint32_t rows[HBC_FUNCTION_WORDS], kinds[1], exact;
     uint64_t value, payloads[1];
     size_t at = 0, start, size;
     CHECK(is(hbc_seek(bytes, (size_t)HBC_LIMIT + 1, &at, 0), "TOO_LONG"));
     CHECK(is(hbc_seek(bytes, 12, &at, 13), "PAST_END"));
     CHECK(is(hbc_read_bytes(bytes, 12, &at, 13, &start, &size), "CUT"));
     CHECK(is(hbc_read_functions(bytes, 12, HBC_LAYOUT_MODERN12, 0, 1, rows, 15), "TOO_FEW_ROWS"));
-    CHECK(is(hbc_read_uleb128(bytes, 12, &at, &value), "LEB128_TOO_LONG") && at == 10);
+    CHECK(is(hbc_read_uleb128(bytes, 12, &at, &value, &exact), "LEB128_TOO_LONG") && at == 10);
     CHECK(is(hbc_align(bytes, 12, &at, 0), "ZERO_ALIGNMENT"));
     CHECK(is(hbc_read_series(bytes, 12, 12, 1, kinds, 1, payloads, 1), "SERIES_PAST_END"));
     CHECK(is(hbc_decode_strings(1, none, 0, small, 1, none, 0, bytes, 12, rows, HBC_STRING_WORDS), "NO_OVERFLOW_PAIR"));
@@ -61,14 +62,14 @@ static int refusals(void)
     return 0;
 }
 
-/* A refused call leaves start and size, numbers and tables as they were. */
+/* A refused call leaves start and size, marks, numbers and tables as they were. */
 static int left(void)
 {
     static const uint8_t bytes[] = {5, 'a', 'b'};
     size_t at = 0, start = 77, size = 88;
-    uint32_t number = 99, rows[HBC_SECTIONS * HBC_SECTION_WORDS];
-    CHECK(is(hbc_read_length_prefixed_string(bytes, 3, &at, &start, &size), "CUT"));
-    CHECK(at == 1 && start == 77 && size == 88);
+    uint32_t number = 99, exact = 66, rows[HBC_SECTIONS * HBC_SECTION_WORDS];
+    CHECK(is(hbc_read_length_prefixed_string(bytes, 3, &at, &start, &size, &exact), "CUT"));
+    CHECK(at == 1 && start == 77 && size == 88 && exact == 66);
     CHECK(is(hbc_read_cstring(bytes, 3, &at, &start, &size), "NO_ZERO") && start == 77 && size == 88);
     CHECK(is(hbc_read_bytes(bytes, 3, &at, 1, &start, &size), "CUT") && start == 77 && size == 88);
     at = 0;
@@ -103,6 +104,80 @@ static int modes(void)
     CHECK(is(code, "TOO_LONG"));
     CHECK(memcmp(rows, hermes, sizeof rows) == 0);
     return 0;
+}
+
+/* A number of nine 80 and a last byte, unsigned, signed, and as the length of a string of no bytes: with which last bytes
+ * it is exact; refused, the mark stays. */
+static int exact_numbers(void)
+{
+    uint8_t bytes[11] = {0x80, 0x80, 0x80, 0x80, 0x80, 0x80, 0x80, 0x80, 0x80, 0, 0x80};
+    uint32_t last, exact;
+    for (last = 0; last < 128; last++) {
+        const uint32_t is_signed = last == 0 || last == 0x7F;
+        uint64_t value = 77;
+        int64_t number = 77;
+        size_t at = 0, start = 77, size = 88;
+        bytes[9] = (uint8_t)last;
+        exact = 66;
+        CHECK(hbc_read_uleb128(bytes, 11, &at, &value, &exact) == 0 && at == 10);
+        CHECK(exact == (last <= 1) && value == (uint64_t)(last & 1) << 63);
+        exact = 66, at = 0;
+        CHECK(hbc_read_sleb128(bytes, 11, &at, &number, &exact) == 0 && at == 10);
+        CHECK(exact == is_signed && number == (last & 1 ? INT64_MIN : 0));
+        exact = 66, at = 0;
+        if (last & 1) {
+            CHECK(is(hbc_read_length_prefixed_string(bytes, 11, &at, &start, &size, &exact), "CUT"));
+            CHECK(at == 10 && start == 77 && size == 88 && exact == 66);
+        } else {
+            CHECK(hbc_read_length_prefixed_string(bytes, 11, &at, &start, &size, &exact) == 0);
+            CHECK(at == 10 && start == 10 && size == 0 && exact == (last == 0));
+        }
+        exact = 66, at = 10;
+        CHECK(is(hbc_read_uleb128(bytes, 11, &at, &value, &exact), "CUT") && exact == 66);
+        at = 12;
+        CHECK(is(hbc_read_sleb128(bytes, 11, &at, &number, &exact), "PAST_END") && exact == 66);
+        bytes[9] |= 0x80, at = 0;
+        CHECK(is(hbc_read_sleb128(bytes, 11, &at, &number, &exact), "LEB128_TOO_LONG") && exact == 66);
+    }
+    return 0;
+}
+
+/* A debug section at byte 1: a scope of one name, its parent in ten bytes with that last one; no callees; a string of one
+ * byte, and one that is cut, its length in ten bytes with that last one. */
+static int exact_debug(uint8_t parent, uint8_t length, uint32_t expected)
+{
+    static const uint8_t scope[] = {0, 1, 0}, text[] = {1, 'x'};
+    uint8_t file[60];
+    uint32_t strings[2 * HBC_TEXT_WORDS], scopes[HBC_SCOPE_WORDS], names[HBC_NAME_WORDS], none[1], exact = 66;
+    size_t counts[4] = {55, 55, 55, 55};
+    memset(file, 0, 29);
+    file[1 + 16] = file[1 + 20] = 13; /* where the callees and the strings begin */
+    file[1 + 24] = 25;                /* where the data ends */
+    memset(file + 29, 0x80, 9);
+    file[38] = parent;
+    memcpy(file + 39, scope, 3);
+    memcpy(file + 42, text, 2);
+    memset(file + 44, 0x81, 9);
+    file[53] = length;
+    CHECK(is(hbc_read_debug(file, 54, 1, strings, 1, scopes, HBC_SCOPE_WORDS, names, 1, none, 0, &counts[0], &counts[1],
+                            &counts[2], &counts[3], &exact), "TOO_FEW_ROWS"));
+    CHECK(is(hbc_read_debug(file, 28, 1, strings, 4, scopes, HBC_SCOPE_WORDS, names, 1, none, 0, &counts[0], &counts[1],
+                            &counts[2], &counts[3], &exact), "CUT"));
+    CHECK(exact == 66 && counts[0] == 55 && counts[1] == 55 && counts[2] == 55 && counts[3] == 55);
+    CHECK(hbc_read_debug(file, 54, 1, strings, 4, scopes, HBC_SCOPE_WORDS, names, 1, none, 0, &counts[0], &counts[1],
+                         &counts[2], &counts[3], &exact) == 0);
+    CHECK(exact == expected && counts[0] == 1 && counts[1] == 1 && counts[2] == 1 && counts[3] == 0);
+    CHECK(scopes[HBC_SCOPE_PARENT] == (parent & 1 ? HBC_NONE : 0) && names[HBC_NAME_STRING] == 0);
+    CHECK(hbc_read_debug(file, 54, 0, strings, 0, scopes, 0, names, 0, none, 0, &counts[0], &counts[1], &counts[2],
+                         &counts[3], &exact) == 0);
+    CHECK(exact == 1 && counts[0] == 0);
+    return 0;
+}
+
+static int marks(void)
+{
+    return exact_numbers() || exact_debug(0, 1, 1) || exact_debug(0x7F, 1, 1) || exact_debug(1, 1, 0) ||
+           exact_debug(0, 0x7F, 0);
 }
 
 /* Of two functions the size of the first is changed, and the second gets a large header that is cut: refused. The flag is
@@ -215,4 +290,4 @@ static int version(void)
     return 0;
 }
 
-int main(void) { return refusals() || left() || modes() || refresh() || ground() || written() || version(); }
+int main(void) { return refusals() || left() || modes() || marks() || refresh() || ground() || written() || version(); }

@@ -51,8 +51,9 @@ static void *nothing(void *unused) { return unused; }
 
 static void *read_it(void *answer) {
     size_t counts[4];
+    uint32_t exact;
     *(uint64_t *)answer = hbc_read_debug(file, file_len, offset, strings, 2, none, 0, none, 0, callees, 2 * ENTRIES,
-                                         &counts[0], &counts[1], &counts[2], &counts[3]);
+                                         &counts[0], &counts[1], &counts[2], &counts[3], &exact);
     return NULL;
 }
 

@@ -16,9 +16,9 @@
  * - The answer is one number: where the call is accepted 0, or a number below 2^32 if it says so below; else the
  *   refusal's number times 2^32, plus its place. HBC_NUMBER and HBC_PLACE take it apart. The place is 0 unless it is
  *   named below.
- * - A value is written only where the call is accepted; a refused call leaves the lent values (`*start` and `*size`
- *   among them), every word of the lent tables and every byte of the buffer as they were, and the cursor too, unless it
- *   says otherwise below.
+ * - A value is written only where the call is accepted; a refused call leaves the lent values (`*start`, `*size` and
+ *   `*exact` among them), every word of the lent tables and every byte of the buffer as they were, and the cursor too,
+ *   unless it says otherwise below.
  * - Every call ends, on every input, and never reads or writes outside what is lent.
  * - Nothing is allocated, and no call has data of its own: calls on different tables and numbers may run in parallel,
  *   on the same bytes too. What the archive needs besides is memcpy and memset.
@@ -30,10 +30,12 @@
 #include <stddef.h>
 #include <stdint.h>
 
-/* What this header and its archive are. */
-#define HBC_VERSION "0.1.0"
+/* What this header and its archive are: the two must be of one version, and no linker sees where they are not. Since
+ * 0.2.0 hbc_read_uleb128, hbc_read_sleb128, hbc_read_length_prefixed_string and hbc_read_debug have one parameter more,
+ * the last, `exact`. */
+#define HBC_VERSION "0.2.0"
 #define HBC_VERSION_MAJOR 0
-#define HBC_VERSION_MINOR 1
+#define HBC_VERSION_MINOR 2
 #define HBC_VERSION_PATCH 0
 
 /* The refusal's number in an answer, 0 if it was accepted; and its place. */
@@ -104,10 +106,13 @@ uint64_t hbc_read_f64(const uint8_t *s, size_t s_len, size_t *at, double *value)
  *
  * At most ten bytes are looked at. The value is the low 64 bits of the number: bits that the tenth byte has beyond them
  * are lost, and a signed number of ten bytes takes no sign from its tenth byte but the one bit it keeps.
+ * `*exact` says whether that happened: 1 if the value is the number, 0 if bits of it were lost. It is 0 exactly if there
+ * is a tenth byte and it is above 1, unsigned, or neither 00 nor 7F, signed. Like the value it is written only where the
+ * call is accepted.
  * Refused 1; 2 if the cursor is past the end; 3 if the bytes end before the number does; 5 if the tenth byte has bit 7
  * set. Refused 3 or 5 the cursor stands after the last byte looked at. */
-uint64_t hbc_read_uleb128(const uint8_t *s, size_t s_len, size_t *at, uint64_t *value);
-uint64_t hbc_read_sleb128(const uint8_t *s, size_t s_len, size_t *at, int64_t *value);
+uint64_t hbc_read_uleb128(const uint8_t *s, size_t s_len, size_t *at, uint64_t *value, uint32_t *exact);
+uint64_t hbc_read_sleb128(const uint8_t *s, size_t s_len, size_t *at, int64_t *value, uint32_t *exact);
 
 /* ---- Parts of the bytes ----
  *
@@ -123,9 +128,11 @@ uint64_t hbc_read_bytes(const uint8_t *s, size_t s_len, size_t *at, size_t len, 
 uint64_t hbc_read_cstring(const uint8_t *s, size_t s_len, size_t *at, size_t *start, size_t *size);
 
 /* A length as hbc_read_uleb128 reads it, then that many bytes, which are the part; the cursor moves behind them.
+ * `*exact` is that of the length: 0 if the part has as many bytes as the low 64 bits of a longer number say.
  * Refused as hbc_read_uleb128, with the cursor as it leaves it; or 3 if fewer bytes are left than the length says: the
- * cursor then stands after the length. */
-uint64_t hbc_read_length_prefixed_string(const uint8_t *s, size_t s_len, size_t *at, size_t *start, size_t *size);
+ * cursor then stands after the length, and `*exact` stays. */
+uint64_t hbc_read_length_prefixed_string(const uint8_t *s, size_t s_len, size_t *at, size_t *start, size_t *size,
+                                         uint32_t *exact);
 
 /* ---- Function tables ----
  *
@@ -395,9 +402,14 @@ uint64_t hbc_trailing_sections(const uint8_t *file, size_t file_len, size_t star
 
 /* The debug section at byte `offset` of the file, as rows in four tables.
  *
- * At `offset` 0, 2^32 - 1, or at or past the end there is no debug information: accepted, with no rows.
- * Accepted, the answer is 0, and the four counts are those of the rows; words past them stay. Refused, the counts stay
- * too.
+ * At `offset` 0, 2^32 - 1, or at or past the end there is no debug information: accepted, with no rows, and exact.
+ * Accepted, the answer is 0, and the four counts are those of the rows; words past them stay. Refused, the counts and
+ * `*exact` stay too.
+ * `*exact` is 1 if every LEB128 number that was read is exact, as hbc_read_uleb128 (of strings) and hbc_read_sleb128 (of
+ * scopes and callees) say it; else 0, and some row may show the low bits of a longer number, or be missing for them. The
+ * length of a string that is cut is among the numbers read, and so are those of a scope that is given up, a count that
+ * is too large or negative, and a name that no string has. A number that could not be read is none, and behind the
+ * address of a callee that could not be read no name is looked for. Where no number was read it is 1.
  * Refused 1; 3 if the header of 28 bytes is cut; 4 if one of the tables has too few rows, looked at last.
  * Takes at most 8 KiB of stack where the callees' addresses rise or there are none, else at most 272 KiB, however many
  * there are. Rising callees take three passes. n others take three for each 65,536 of them, and a few more, each over
@@ -405,7 +417,7 @@ uint64_t hbc_trailing_sections(const uint8_t *file, size_t file_len, size_t star
 uint64_t hbc_read_debug(const uint8_t *file, size_t file_len, uint32_t offset, uint32_t *strings, size_t strings_len,
                         uint32_t *scopes, size_t scopes_len, uint32_t *names, size_t names_len, uint32_t *callees,
                         size_t callees_len, size_t *string_count, size_t *scope_count, size_t *name_count,
-                        size_t *callee_count);
+                        size_t *callee_count, uint32_t *exact);
 
 #ifdef __cplusplus
 }

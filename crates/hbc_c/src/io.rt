@@ -1,13 +1,14 @@
-// The calls of hbc_bits and of the cursor layer. The cursor goes in and comes back at `at`; a value is written only where one was read.
+// The calls of hbc_bits and of the cursor layer. The cursor goes in and comes back at `at`; a value and its mark are written only where one was read.
 ghost use mathlib.Core.Path.{_≡_};
 ghost use lib.Ieee.{ofBits, binary64};
 ghost use Rattle.hbc_bits.specs.Bits.{field};
 ghost use Rattle.hbc_io.specs.Outcome.{cursorAt, left, valued, twos};
 ghost use Rattle.hbc_io.specs.Plain.{plainAt, seekTo, alignTo, bytesAt};
-ghost use Rattle.hbc_io_leb.specs.Leb.{lebBytes, unsignedOf, signedOf};
-ghost use Rattle.hbc_io_strings.specs.Strings.{zeroEnded, prefixed};
+ghost use Rattle.hbc_io_leb.specs.Leb.{lebBytes, unsignedOf, signedOf, exactUnsigned, exactSigned};
+ghost use Rattle.hbc_io_strings.specs.Strings.{zeroEnded, prefixed, markedAt};
+ghost use Rattle.hbc_io_strings.specs.declared.Prefixed.{Prefixed};
 ghost use Rattle.hbc_c_code.specs.Told.{Moves, Reads};
-ghost use Rattle.hbc_c_io.specs.Io.{ReadsSpan};
+ghost use Rattle.hbc_c_io.specs.Io.{ReadsSpan, Marked};
 
 #[no_mangle]
 pub extern "C" fn hbc_bits(word: u64, first: u32, width: u32) -> u64
@@ -96,23 +97,37 @@ pub extern "C" fn hbc_read_f64(s: &[u8], at: &mut usize, value: &mut f64) -> u64
 }
 
 #[no_mangle]
-pub extern "C" fn hbc_read_uleb128(s: &[u8], at: &mut usize, value: &mut u64) -> u64
+pub extern "C" fn hbc_read_uleb128(
+    s: &[u8],
+    at: &mut usize,
+    value: &mut u64,
+    exact: &mut u32,
+) -> u64
     ensures { λ r. ⌜
-        Reads (valued unsignedOf (lebBytes (now (s .entry)) (cursorAt (now (at .entry))))) (now (value .entry))
-        r (now (at .exit)) (now (value .exit))
+        Marked
+        (Reads (valued unsignedOf (lebBytes (now (s .entry)) (cursorAt (now (at .entry))))) (now (value .entry))
+        r (now (at .exit)) (now (value .exit)))
+        (valued exactUnsigned (lebBytes (now (s .entry)) (cursorAt (now (at .entry))))) (now (exact .entry)) (now (exact .exit))
         ⌝ }
 {
-    hbc_c_io::read_uleb128(s, at, value)
+    hbc_c_io::read_uleb128(s, at, value, exact)
 }
 
 #[no_mangle]
-pub extern "C" fn hbc_read_sleb128(s: &[u8], at: &mut usize, value: &mut i64) -> u64
+pub extern "C" fn hbc_read_sleb128(
+    s: &[u8],
+    at: &mut usize,
+    value: &mut i64,
+    exact: &mut u32,
+) -> u64
     ensures { λ r. ⌜
-        Reads (valued signedOf (lebBytes (now (s .entry)) (cursorAt (now (at .entry))))) (now (value .entry))
-        r (now (at .exit)) (now (value .exit))
+        Marked
+        (Reads (valued signedOf (lebBytes (now (s .entry)) (cursorAt (now (at .entry))))) (now (value .entry))
+        r (now (at .exit)) (now (value .exit)))
+        (valued exactSigned (lebBytes (now (s .entry)) (cursorAt (now (at .entry))))) (now (exact .entry)) (now (exact .exit))
         ⌝ }
 {
-    hbc_c_io::read_sleb128(s, at, value)
+    hbc_c_io::read_sleb128(s, at, value, exact)
 }
 
 #[no_mangle]
@@ -152,11 +167,14 @@ pub extern "C" fn hbc_read_length_prefixed_string(
     at: &mut usize,
     start: &mut usize,
     size: &mut usize,
+    exact: &mut u32,
 ) -> u64
     ensures { λ r. ⌜
-        ReadsSpan (prefixed (now (s .entry)) (cursorAt (now (at .entry)))) (now (start .entry)) (now (size .entry))
-        r (now (at .exit)) (now (start .exit)) (now (size .exit))
+        Marked
+        (ReadsSpan (prefixed (now (s .entry)) (cursorAt (now (at .entry)))) (now (start .entry)) (now (size .entry))
+        r (now (at .exit)) (now (start .exit)) (now (size .exit)))
+        (valued (λ (p : Prefixed). p .exact) (markedAt (now (s .entry)) (cursorAt (now (at .entry))))) (now (exact .entry)) (now (exact .exit))
         ⌝ }
 {
-    hbc_c_io::read_length_prefixed_string(s, at, start, size)
+    hbc_c_io::read_length_prefixed_string(s, at, start, size, exact)
 }

@@ -2,7 +2,6 @@
 use Prim.Native.Nat.{ℕ, _-_, _^_}
 use mathlib.Core.Path.{_≡_}
 use mathlib.Core.List.{List}
-use mathlib.Core.Bool.{Bool, true, false}
 use lib.ListN.{length}
 use Rattle.hbc_io.specs.Outcome.{refusalAt}
 use Rattle.hbc_io.specs.Answer.{Answer, gives, refuses, asked}
@@ -18,7 +17,7 @@ use Rattle.hbc_function_header.specs.Meets.{functionMeets}
 use Rattle.hbc_function.specs.Table.{rowBy, roomed, ReadFunctions}
 use Rattle.hbc_function.specs.Refresh.{saysRefreshed, RefreshFunctions}
 use Rattle.hbc_function_write.specs.Write.{saysWrote, WriteFunctions}
-use Rattle.hbc_c_code.specs.Code.{codeOf, codeIn, always}
+use Rattle.hbc_c_code.specs.Code.{codeOf, codeIn, truth, always}
 use Rattle.hbc_c_code.specs.Told.{Told}
 
 -- what is promised of a layout, by its number: 0 legacy, 1 modern; any other is malformed (12), and the words are as they were
@@ -103,10 +102,6 @@ abbrev pub ToldGround : List ℕ → ℕ → ℕ → ℕ → Places → ℕ → 
 ToldGround s layout start i before = ByLayout layout (λ l. GroundFound s l start i before) before
 
 -- ---- whether a function meets a span: accepted, 1 or 0
-
-abbrev pub truth : Bool → ℕ
-truth true = 1
-truth false = 0
 
 abbrev pub ToldMeets : List ℕ → ℕ → ℕ → ℕ → ℕ → ℕ → ℕ → Type 0
 ToldMeets s layout start i low high r = ByLayout {W = Unit {0}} layout (λ l n w. n ≡ codeIn truth (functionMeets s l start i low high)) tt r tt

@@ -2,8 +2,8 @@
 // rows are written the low half of an accepted answer is how many, where bytes are, their end.
 ghost use mathlib.Core.Path.{_≡_};
 ghost use Rattle.hbc_function_header.specs.Meets.{functionMeets};
-ghost use Rattle.hbc_c_code.specs.Code.{codeIn};
-ghost use Rattle.hbc_c_function.specs.Function.{truth, places, TableRead, TableRefreshed, TableWritten, RowRead, GroundFound};
+ghost use Rattle.hbc_c_code.specs.Code.{codeIn, truth};
+ghost use Rattle.hbc_c_function.specs.Function.{places, TableRead, TableRefreshed, TableWritten, RowRead, GroundFound};
 ghost use Rattle.hbc_c_function.specs.Function.{ToldFunctions, ToldRefresh, ToldWrite, ToldFunction, ToldGround, ToldMeets};
 use hbc_c_code::code;
 use hbc_function::Refreshed;

@@ -1,14 +1,15 @@
 // The calls of hbc_bits and of the cursor layer for C and Rust, each behind an export of hbc_c. The cursor goes in and comes back at `at`;
-// a value is written only where one was read.
+// a value and its mark are written only where one was read.
 ghost use mathlib.Core.Path.{_≡_};
 ghost use lib.Ieee.{ofBits, binary64};
 ghost use Rattle.hbc_bits.specs.Bits.{field};
 ghost use Rattle.hbc_io.specs.Outcome.{cursorAt, left, valued, twos};
 ghost use Rattle.hbc_io.specs.Plain.{plainAt, seekTo, alignTo, bytesAt};
-ghost use Rattle.hbc_io_leb.specs.Leb.{lebBytes, unsignedOf, signedOf};
-ghost use Rattle.hbc_io_strings.specs.Strings.{zeroEnded, prefixed};
+ghost use Rattle.hbc_io_leb.specs.Leb.{lebBytes, unsignedOf, signedOf, exactUnsigned, exactSigned};
+ghost use Rattle.hbc_io_strings.specs.Strings.{zeroEnded, prefixed, markedAt};
+ghost use Rattle.hbc_io_strings.specs.declared.Prefixed.{Prefixed};
 ghost use Rattle.hbc_c_code.specs.Told.{Moves, Reads};
-ghost use Rattle.hbc_c_io.specs.Io.{ReadsSpan};
+ghost use Rattle.hbc_c_io.specs.Io.{ReadsSpan, Marked};
 use hbc_c_code::code;
 use hbc_io::Cursor;
 use hbc_io::Moved;
@@ -22,6 +23,7 @@ use hbc_io::ReadU32;
 use hbc_io::ReadU64;
 use hbc_io_leb::ReadSleb;
 use hbc_io_leb::ReadUleb;
+use hbc_io_strings::ReadPrefixed;
 
 pub fn bits(word: u64, first: u32, width: u32) -> u64
     ensures { λ r. ⌜ r ≡ field first width word ⌝ }
@@ -186,16 +188,19 @@ pub fn read_f64(s: &[u8], at: &mut usize, value: &mut f64) -> u64
     }
 }
 
-pub fn read_uleb128(s: &[u8], at: &mut usize, value: &mut u64) -> u64
+pub fn read_uleb128(s: &[u8], at: &mut usize, value: &mut u64, exact: &mut u32) -> u64
     ensures { λ r. ⌜
-        Reads (valued unsignedOf (lebBytes (now (s .entry)) (cursorAt (now (at .entry))))) (now (value .entry))
-        r (now (at .exit)) (now (value .exit))
+        Marked
+        (Reads (valued unsignedOf (lebBytes (now (s .entry)) (cursorAt (now (at .entry))))) (now (value .entry))
+        r (now (at .exit)) (now (value .exit)))
+        (valued exactUnsigned (lebBytes (now (s .entry)) (cursorAt (now (at .entry))))) (now (exact .entry)) (now (exact .exit))
         ⌝ }
 {
     match hbc_io_leb::read_uleb128(s, Cursor { at: *at }) {
         ReadUleb::Got(v, next) => {
             let n = v.value;
             *value = n;
+            *exact = v.exact as u32;
             *at = next.at;
             0
         }
@@ -206,16 +211,19 @@ pub fn read_uleb128(s: &[u8], at: &mut usize, value: &mut u64) -> u64
     }
 }
 
-pub fn read_sleb128(s: &[u8], at: &mut usize, value: &mut i64) -> u64
+pub fn read_sleb128(s: &[u8], at: &mut usize, value: &mut i64, exact: &mut u32) -> u64
     ensures { λ r. ⌜
-        Reads (valued signedOf (lebBytes (now (s .entry)) (cursorAt (now (at .entry))))) (now (value .entry))
-        r (now (at .exit)) (now (value .exit))
+        Marked
+        (Reads (valued signedOf (lebBytes (now (s .entry)) (cursorAt (now (at .entry))))) (now (value .entry))
+        r (now (at .exit)) (now (value .exit)))
+        (valued exactSigned (lebBytes (now (s .entry)) (cursorAt (now (at .entry))))) (now (exact .entry)) (now (exact .exit))
         ⌝ }
 {
     match hbc_io_leb::read_sleb128(s, Cursor { at: *at }) {
         ReadSleb::Got(v, next) => {
             let n = v.value;
             *value = n;
+            *exact = v.exact as u32;
             *at = next.at;
             0
         }
@@ -271,20 +279,24 @@ pub fn read_length_prefixed_string(
     at: &mut usize,
     start: &mut usize,
     size: &mut usize,
+    exact: &mut u32,
 ) -> u64
     ensures { λ r. ⌜
-        ReadsSpan (prefixed (now (s .entry)) (cursorAt (now (at .entry)))) (now (start .entry)) (now (size .entry))
-        r (now (at .exit)) (now (start .exit)) (now (size .exit))
+        Marked
+        (ReadsSpan (prefixed (now (s .entry)) (cursorAt (now (at .entry)))) (now (start .entry)) (now (size .entry))
+        r (now (at .exit)) (now (start .exit)) (now (size .exit)))
+        (valued (λ (p : Prefixed). p .exact) (markedAt (now (s .entry)) (cursorAt (now (at .entry))))) (now (exact .entry)) (now (exact .exit))
         ⌝ }
 {
     match hbc_io_strings::read_length_prefixed_string(s, Cursor { at: *at }) {
-        ReadSpan::Got(p, next) => {
-            *start = p.start;
-            *size = p.len;
+        ReadPrefixed::Got(p, next) => {
+            *start = p.span.start;
+            *size = p.span.len;
+            *exact = p.exact as u32;
             *at = next.at;
             0
         }
-        ReadSpan::Refused(r, stays) => {
+        ReadPrefixed::Refused(r, stays) => {
             *at = stays.at;
             code(r)
         }

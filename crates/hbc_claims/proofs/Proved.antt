@@ -70,6 +70,7 @@ use Rattle.hbc_claims_debug.proofs.AllRead as steps
 use Rattle.hbc_claims_debug.proofs.Callees as callees
 use Rattle.hbc_claims_debug.proofs.DebugRows as debug-rows
 use Rattle.hbc_claims_debug.proofs.Left as r-debug
+use Rattle.hbc_claims_debug.proofs.Marks as marks
 use Rattle.hbc_claims_debug.proofs.Unique as u-debug
 use Rattle.hbc_claims_c.proofs.Left as r-c
 use Rattle.hbc_claims_c.proofs.Unique as u-c
@@ -142,6 +143,7 @@ cursor-left s c k n = record {
   bits = r-io.bits-left s c;
   cstring = r-io.zero-left s c;
   prefix = r-io.prefix-left s c;
+  marked = r-io.marked-left s c;
 }
 
 tables-left : (k : Refusal) → TablesLeft k
@@ -198,13 +200,16 @@ exact bs = record {
   signed-only = leb.signed-only bs;
   nine-unsigned = leb.nine-unsigned bs;
   nine-signed = leb.nine-signed bs;
+  mark = leb.mark-tells bs;
 }
 
 packing : (s : List ℕ) (at i : ℕ) → Packed s at i
 packing s at i = record { legacy = packs.legacy-bits; modern = packs.modern-bits; not-added = packs.not-added; large = λ layout. packs.large s layout at i }
 
 whole : (s : List ℕ) (k : ℕ) → Whole s k
-whole s k = record { tags = tags.enough k s; strings = steps.all-read s k .strings; scopes = steps.all-read s k .scopes }
+whole s k =
+    let all = steps.all-read s k in
+    record { tags = tags.enough k s; strings = all .strings; scopes = all .scopes; string-numbers = all .string-numbers; scope-numbers = all .scope-numbers }
 
 table-read : {width : ℕ} {s : List ℕ} {c : Cursor} {count : ℕ} {t : List ℕ} {n : Cursor} {t′ : List ℕ} → ReadTable width s c count t (moved.To n) t′
     → TableRead width s c count t n t′
@@ -274,16 +279,17 @@ sections-read s start regexps storage cjs given sources v e =
     let f = pairs.sections-fit start regexps storage cjs given sources s v (g .0) (g .1) in
     (laid start regexps storage cjs given sources s v (g .0) (g .1), sizes.counted start regexps storage cjs given sources s v (g .0) (g .1), f .0, f .1, f .2)
 
-debug-read : (file : List ℕ) (offset : ℕ) (t : Tables) (k : Counts) (t′ : Tables) → ReadDebug file offset t (debugged.Read k) t′
-    → DebugRead (contentsAt file offset) t k t′
-debug-read file offset t k t′ v = record {
-  counts = debug-rows.counts-are file offset t k t′ v;
-  strings = debug-rows.string-row file offset t k t′ v;
-  scopes = debug-rows.scope-row file offset t k t′ v;
-  names = debug-rows.name-row file offset t k t′ v;
-  callees = debug-rows.callee-row file offset t k t′ v;
+debug-read : (file : List ℕ) (offset : ℕ) (t : Tables) (k : Counts) (e : Bool) (t′ : Tables) → ReadDebug file offset t (debugged.Read k e) t′
+    → DebugRead (contentsAt file offset) t k e t′
+debug-read file offset t k e t′ v = record {
+  counts = debug-rows.counts-are file offset t k e t′ v;
+  exact = marks.told (contentsAt file offset) (debug-rows.mark-is file offset t k e t′ v);
+  strings = debug-rows.string-row file offset t k e t′ v;
+  scopes = debug-rows.scope-row file offset t k e t′ v;
+  names = debug-rows.name-row file offset t k e t′ v;
+  callees = debug-rows.callee-row file offset t k e t′ v;
   rising = callees.callees-read (stringCount (contentsAt file offset)) (contentsAt file offset .callees);
-  past = debug-rows.past-rows file offset t k t′ v;
+  past = debug-rows.past-rows file offset t k e t′ v;
 }
 
 writes : {rows : List ℕ} {layout : Layout} {start count large : ℕ} {b : List ℕ} {e : ℕ} {b′ : List ℕ} → Written rows layout start count large b e b′

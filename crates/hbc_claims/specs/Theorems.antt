@@ -33,7 +33,8 @@ use Rattle.hbc_io_leb.specs.declared.Sleb.{Sleb}
 use Rattle.hbc_io_leb.specs.declared.ReadUleb.{ReadUleb}
 use Rattle.hbc_io_leb.specs.Leb.{lebBytes, dwarfUnsigned, dwarfSigned, unsignedOf, signedOf}
 use Rattle.hbc_io_leb.specs.Signed.{slebAt, low32}
-use Rattle.hbc_io_strings.specs.Strings.{zeroEnded, prefixed}
+use Rattle.hbc_io_strings.specs.Strings.{zeroEnded, prefixed, markedAt}
+use Rattle.hbc_io_strings.specs.declared.Prefixed.{Prefixed}
 use Rattle.hbc_reader.specs.declared.ByteReader.{ByteReader}
 use Rattle.hbc_reader.proofs.ByteReader.new as of-new
 use Rattle.hbc_reader.proofs.ByteReader.position as of-position
@@ -85,26 +86,29 @@ use Rattle.hbc_parsing_sections.specs.Laid.{Laid}
 use Rattle.hbc_parsing_sections.specs.Sections.{sectionsAt, saysSections}
 use Rattle.hbc_debug_parts.specs.declared.InFile.{InFile}
 use Rattle.hbc_debug_parts.specs.declared.Written.the-variants as wrote
-use Rattle.hbc_debug_strings.specs.Strings.{stringsOf, stringWidth as debugWidth, WriteStrings}
+use Rattle.hbc_debug_parts.specs.Along.{along}
+use Rattle.hbc_debug_strings.specs.Strings.{stringsOf, stringWidth as debugWidth, prefixNumber, stringNumbers, WriteStrings}
 use Rattle.hbc_debug_scopes.specs.declared.ScopeCounts.{ScopeCounts}
-use Rattle.hbc_debug_scopes.specs.Scopes.{Scope, scopeAt, scopesOf, scopeWidth, parentWord, nameWord, namesIn, WriteScopes}
-use Rattle.hbc_debug_callees.specs.Callees.{Callee, calleesOf, calleeWidth, WriteCallees}
+use Rattle.hbc_debug_scopes.specs.Scopes.{Scope, scopeAt, scopesOf, scopeWidth, parentWord, nameWord, namesIn, numbersAt, scopeNumbers, WriteScopes}
+use Rattle.hbc_debug_rising.specs.Rising.{Callee}
+use Rattle.hbc_debug_callees.specs.Callees.{calleesOf, calleeWidth, WriteCallees}
 use Rattle.hbc_debug.specs.declared.Counts.{Counts}
 use Rattle.hbc_debug.specs.declared.Debugged.the-variants as debugged
-use Rattle.hbc_debug.specs.Debug.{Tables, Contents, contentsAt, stringCount, countsOf, ReadDebug}
+use Rattle.hbc_debug.specs.Debug.{Tables, Contents, contentsAt, stringCount, countsOf, numbersRead, ReadDebug}
 use Rattle.hbc_c_code.specs.Code.{codeOf}
 use Rattle.hbc_c_code.specs.Told.{Moves, Reads as ReadTold}
-use Rattle.hbc_c_io.specs.Io.{ReadsSpan}
+use Rattle.hbc_c_io.specs.Io.{ReadsSpan, Marked}
 use Rattle.hbc_c_function.specs.Function.{Places, ToldFunctions, ToldRefresh, ToldWrite, ToldFunction, ToldGround}
 use Rattle.hbc_c_table.specs.Table.{ToldTable, ToldStrings}
 use Rattle.hbc_c_buffer.specs.Buffer.{ToldLiteral, ToldSeries, ToldObject}
 use Rattle.hbc_c_parsing.specs.Parsing.{ToldHandlers, ToldSections}
-use Rattle.hbc_c_debug.specs.Debug.{ToldDebug}
+use Rattle.hbc_c_debug.specs.Debug.{Lent as Numbers, ToldDebug}
 use Rattle.hbc_claims_law.specs.Law.{All}
 use Rattle.hbc_claims_law.specs.Terms.{Fits64, OrBit, lebLeft, textLeft, PrefixLeft, Behind, countOf}
 use Rattle.hbc_claims_law.specs.Terms.{Same, Shared, RowWord, flagged, packedAt, Value, Whose}
 use Rattle.hbc_claims_io.specs.Unique as u-io
 use Rattle.hbc_claims_io.specs.Reader as u-reader
+use Rattle.hbc_claims_io.specs.Leb128.{MarkTells}
 use Rattle.hbc_claims_io.specs.Reader.{Lent, New, Position, Remaining, Seek, U32, Uleb128, Bytes, Part}
 use Rattle.hbc_claims_function.specs.Packed as packed
 use Rattle.hbc_claims_function.specs.Unique as u-function
@@ -119,6 +123,7 @@ use Rattle.hbc_claims_parsing.specs.SectionSizes.{Counted}
 use Rattle.hbc_claims_parsing.specs.Unique as u-parsing
 use Rattle.hbc_claims_debug.specs.Callees.{CalleesRead}
 use Rattle.hbc_claims_debug.specs.Left.{PastRows}
+use Rattle.hbc_claims_debug.specs.Marks.{Told}
 use Rattle.hbc_claims_debug.specs.Unique as u-debug
 use Rattle.hbc_claims_c.specs.Unique as u-c
 use Rattle.hbc_claims.specs.Cases.{cases}
@@ -214,8 +219,9 @@ pub record CursorLeft (s : List ℕ) (c : Cursor) (k : Refusal) (n : Cursor) : T
   pub bits : {A : Type 0} (f : Sleb → A) → refused k n ≡ valued f (slebAt s c) → n ≡ lebLeft s c k
   -- read_cstring: at the end of the input for 9, else as it was
   pub cstring : refused k n ≡ zeroEnded s c → n ≡ cond (eqb (k .number) 9) (cursorAt (length s)) c
-  -- read_length_prefixed_string: where the refused length leaves it, or after the length that was read
+  -- read_length_prefixed_string: where the refused length leaves it, or after the length that was read; with its mark (`marked`) and without
   pub prefix : refused k n ≡ prefixed s c → PrefixLeft s c k n
+  pub marked : refused k n ≡ markedAt s c → PrefixLeft s c k n
 
 -- lent tables and rows, by call: as they were (`tables-left`)
 pub record TablesLeft (k : Refusal) : Type 0 where
@@ -253,14 +259,16 @@ pub record ExportedLeft (s : List ℕ) (at r at′ : ℕ) : Type 1 where
   pub plain : {A : Type 0} (w : ℕ) (f : ℕ → A) {before value : A} → ReadTold (valued f (plainAt w s (cursorAt at))) before r at′ value
       → (at′ ≡ at) × (value ≡ before)
   -- hbc_read_uleb128, hbc_read_sleb128
-  pub leb : {A : Type 0} (f : List ℕ → A) {before value : A} → ReadTold (valued f (lebBytes s (cursorAt at))) before r at′ value
-      → (k : Refusal) × (r ≡ codeOf k) × (at′ ≡ lebLeft s (cursorAt at) k .at) × (value ≡ before)
+  pub leb : {A : Type 0} (f : List ℕ → A) (mark : List ℕ → Bool) {before value : A} {exact₀ exact : ℕ}
+      → Marked (ReadTold (valued f (lebBytes s (cursorAt at))) before r at′ value) (valued mark (lebBytes s (cursorAt at))) exact₀ exact
+      → (k : Refusal) × (r ≡ codeOf k) × (at′ ≡ lebLeft s (cursorAt at) k .at) × (value ≡ before) × (exact ≡ exact₀)
   pub hbc-read-bytes : (n : ℕ) {start₀ len₀ start len : ℕ} → ReadsSpan (bytesAt n s (cursorAt at)) start₀ len₀ r at′ start len
       → (at′ ≡ at) × (start ≡ start₀) × (len ≡ len₀)
   pub hbc-read-cstring : {start₀ len₀ start len : ℕ} → ReadsSpan (zeroEnded s (cursorAt at)) start₀ len₀ r at′ start len
       → (k : Refusal) × (r ≡ codeOf k) × (at′ ≡ textLeft s (cursorAt at) k .at) × (start ≡ start₀) × (len ≡ len₀)
-  pub hbc-read-length-prefixed-string : {start₀ len₀ start len : ℕ} → ReadsSpan (prefixed s (cursorAt at)) start₀ len₀ r at′ start len
-      → (k : Refusal) × (r ≡ codeOf k) × PrefixLeft s (cursorAt at) k (cursorAt at′) × (start ≡ start₀) × (len ≡ len₀)
+  pub hbc-read-length-prefixed-string : {start₀ len₀ start len exact₀ exact : ℕ}
+      → Marked (ReadsSpan (prefixed s (cursorAt at)) start₀ len₀ r at′ start len) (valued (λ (p : Prefixed). p .exact) (markedAt s (cursorAt at))) exact₀ exact
+      → (k : Refusal) × (r ≡ codeOf k) × PrefixLeft s (cursorAt at) k (cursorAt at′) × (start ≡ start₀) × (len ≡ len₀) × (exact ≡ exact₀)
   pub hbc-function-ground : (l start i : ℕ) (held : Places) {places : Places} → ToldGround s l start i held r places → places ≡ held
   -- hbc_read_u32_table (width 1), hbc_read_pair_table (width 2)
   pub table : (width count : ℕ) (t : List ℕ) {t′ : List ℕ} → ToldTable width s at count t r at′ t′ → (at′ ≡ at) × (t′ ≡ t)
@@ -268,7 +276,7 @@ pub record ExportedLeft (s : List ℕ) (at r at′ : ℕ) : Type 1 where
       → (at′ ≡ at) × (kind′ ≡ kind) × (number′ ≡ number) × (word′ ≡ word)
   pub hbc-read-handlers : (functions : List ℕ) (count : ℕ) (t : List ℕ) {total total′ : ℕ} {t′ : List ℕ} → ToldHandlers s functions count t total r t′ total′
       → (t′ ≡ t) × (total′ ≡ total)
-  pub hbc-read-debug : (offset : ℕ) (t : Tables) (k : Counts) {k′ : Counts} {t′ : Tables} → ToldDebug s offset t k r t′ k′ → (t′ ≡ t) × (k′ ≡ k)
+  pub hbc-read-debug : (offset : ℕ) (t : Tables) (k : Numbers) {k′ : Numbers} {t′ : Tables} → ToldDebug s offset t k r t′ k′ → (t′ ≡ t) × (k′ ≡ k)
 
 -- the exported calls that answer a count or an end, where r tells a refusal, from 2^32 up: every lent word or byte is as it was; l is a layout's number
 -- (`counted-left`)
@@ -287,7 +295,7 @@ pub record CountedLeft (s : List ℕ) (r : ℕ) : Type 0 where
   pub hbc-trailing-sections : (start regexps storage cjs : ℕ) (given : Bool) (sources : ℕ) (t : List ℕ) {t′ : List ℕ}
       → ToldSections s start regexps storage cjs given sources t r t′ → t′ ≡ t
 
--- ==== 5. LEB128 (`exact`): the answer is the number that DWARF has for the bytes exactly when that fits 64 bits
+-- ==== 5. LEB128 (`exact`): the answer is the number that DWARF has for the bytes exactly when that fits 64 bits, and exactly when its mark is true
 pub record Exact (bs : List ℕ) : Type 0 where
   pub unsigned : dwarfUnsigned bs < 2 ^ 64 → unsignedOf bs ≡ dwarfUnsigned bs
   pub unsigned-only : unsignedOf bs ≡ dwarfUnsigned bs → dwarfUnsigned bs < 2 ^ 64
@@ -296,6 +304,8 @@ pub record Exact (bs : List ℕ) : Type 0 where
   -- which it does in nine bytes or fewer
   pub nine-unsigned : length bs ≤ 9 → unsignedOf bs ≡ dwarfUnsigned bs
   pub nine-signed : 1 ≤ length bs → length bs ≤ 9 → signedOf bs ≡ dwarfSigned bs
+  -- of a number that was read, the mark `exact` is true exactly when the answer is that number, unsigned and signed
+  pub mark : (s : List ℕ) (c n : Cursor) → lebBytes s c ≡ got bs n → MarkTells bs
 
 -- ==== 6. Packed places and large headers (`packing`)
 pub record Packed (s : List ℕ) (at i : ℕ) : Type 0 where
@@ -315,6 +325,9 @@ pub record Whole (s : List ℕ) (k : ℕ) : Type 0 where
   -- the strings and the scopes of a debug part are all that k more steps read
   pub strings : until (prefixed s) (length s + k) (cursorAt 0) ≡ stringsOf s
   pub scopes : until (scopeAt s) (length s + k) (cursorAt 0) ≡ scopesOf s
+  -- and the numbers that are met on the way, of which the mark is, are those of k more
+  pub string-numbers : along (prefixed s) (prefixNumber s) (length s + k) (cursorAt 0) ≡ stringNumbers s
+  pub scope-numbers : along (scopeAt s) (numbersAt s) (length s + k) (cursorAt 0) ≡ scopeNumbers s
 
 -- ==== 8. What accepted calls give; read_u32_table, read_pair_table (`table-read`):
 pub record TableRead (width : ℕ) (s : List ℕ) (c : Cursor) (count : ℕ) (t : List ℕ) (n : Cursor) (t′ : List ℕ) : Type 0 where
@@ -393,9 +406,12 @@ SectionsRead s start regexps storage cjs given sources v =
     Laid s start v × Counted regexps storage cjs given sources v × Fits s (v .regexps) × Fits s (v .cjs) × SourcesFit s (v .sources)
 
 -- read_debug, b being the bytes of the three parts that it finds (`debug-read`):
-pub record DebugRead (b : Contents) (t : Tables) (k : Counts) (t′ : Tables) : Type 0 where
+pub record DebugRead (b : Contents) (t : Tables) (k : Counts) (e : Bool) (t′ : Tables) : Type 0 where
   -- as many rows as there are strings, scopes, names and callees
   pub counts : k ≡ countsOf b
+  -- the mark e is true exactly when of every LEB128 number that was read (`numbersRead`: which they are, part by part in file order) the answer is DWARF's;
+  -- where none was read it is true
+  pub exact : Told e (numbersRead b)
   -- the string after xs: its start in the file, behind its prefix, and its byte length
   pub strings : (xs ys : List Span) (p : Span) → stringsOf (b .strings) ≡ xs ++ p ∷ ys
       → rowAt debugWidth (t′ .strings) (length xs) ≡ (b .base .0 + p .start) ∷ p .len ∷ []
@@ -459,8 +475,8 @@ pub record Theorems : Type 2 where
       → ReadHandlers s functions count t (listed.Rows n) t′ → HandlersRead s functions count t n t′
   pub sections-read : (s : List ℕ) (start regexps storage cjs : ℕ) (given : Bool) (sources : ℕ) (v : Sections)
       → saysSections (sections.Got v) ≡ told (sectionsAt start regexps storage cjs given sources s) → SectionsRead s start regexps storage cjs given sources v
-  pub debug-read : (file : List ℕ) (offset : ℕ) (t : Tables) (k : Counts) (t′ : Tables)
-      → ReadDebug file offset t (debugged.Read k) t′ → DebugRead (contentsAt file offset) t k t′
+  pub debug-read : (file : List ℕ) (offset : ℕ) (t : Tables) (k : Counts) (e : Bool) (t′ : Tables)
+      → ReadDebug file offset t (debugged.Read k e) t′ → DebugRead (contentsAt file offset) t k e t′
   pub writes : (rows : List ℕ) (layout : Layout) (start count large : ℕ) (b : List ℕ) (e : ℕ) (b′ : List ℕ)
       → Written rows layout start count large b e b′ → Writes rows layout start count large b e b′
   -- two writes that leave the same buffer were of the same rows, wherever their large headers went and whatever the buffers were before

@@ -20,8 +20,11 @@ use Rattle.hbc_io.specs.declared.Refusal.{Refusal}
 use Rattle.hbc_io.specs.declared.Moved.{Moved}
 use Rattle.hbc_io.specs.declared.Moved.the-variants as moved
 use Rattle.hbc_io.specs.declared.Span.{Span}
+use Rattle.hbc_io.proofs.Reading.{valued-refused}
 use Rattle.hbc_io_leb.specs.Leb.{lebBytes}
-use Rattle.hbc_io_strings.specs.Strings.{zeroEnded, prefixed}
+use Rattle.hbc_io_strings.specs.Strings.{zeroEnded, prefixed, markedAt}
+use Rattle.hbc_io_strings.specs.declared.Prefixed.{Prefixed}
+use Rattle.hbc_io_strings.proofs.Strings.{mark-refused}
 use Rattle.hbc_rows.specs.Rows.{rows}
 use Rattle.hbc_function_record.specs.declared.Layout.{Layout}
 use Rattle.hbc_function_header.specs.declared.Ground.{Ground}
@@ -38,18 +41,20 @@ use Rattle.hbc_buffer.specs.Series.{saysSeries, seriesAnswer}
 use Rattle.hbc_buffer.proofs.Exits.{apart}
 use Rattle.hbc_buffer_object.specs.Object.{named, objectOf, saysObject}
 use Rattle.hbc_parsing_sections.specs.declared.Sections.{Sections}
-use Rattle.hbc_debug.specs.Debug.{Tables}
-use Rattle.hbc_debug.specs.declared.Counts.{Counts}
-use Rattle.hbc_c_code.specs.Code.{codeOf, codeIn, always}
+use Rattle.hbc_io.proofs.Exits.{not-given}
+use Rattle.hbc_debug.specs.Debug.{Tables, saysDebug}
+use Rattle.hbc_debug.specs.declared.Debugged.{Debugged}
+use Rattle.hbc_debug.specs.declared.Debugged.the-variants as debugged
+use Rattle.hbc_c_code.specs.Code.{codeOf, codeIn, always, valueIn, truth}
 use Rattle.hbc_c_code.specs.Told.{Told, ToldValue, Moves, Reads}
 use Rattle.hbc_c_code.proofs.Tolds.{left}
-use Rattle.hbc_c_io.specs.Io.{ReadsSpan}
+use Rattle.hbc_c_io.specs.Io.{ReadsSpan, Marked}
 use Rattle.hbc_c_function.specs.Function.{Places, GroundTold, ToldFunctions, ToldRefresh, ToldWrite, ToldFunction, ToldGround}
 use Rattle.hbc_c_function.proofs.ByLayouts.{by-layout}
 use Rattle.hbc_c_table.specs.Table.{ToldTable, ToldStrings}
 use Rattle.hbc_c_buffer.specs.Buffer.{yesOf, LiteralTold, ToldLiteral, ToldSeries, ToldObject}
 use Rattle.hbc_c_parsing.specs.Parsing.{sectionWidth, intoBy, sectionsAnswer, ToldHandlers, ToldSections}
-use Rattle.hbc_c_debug.specs.Debug.{ToldDebug}
+use Rattle.hbc_c_debug.specs.Debug.{Lent as Numbers, saysLent, ToldDebug}
 use Rattle.hbc_claims_law.specs.Terms.{countOf, lebLeft, textLeft, PrefixLeft}
 use Rattle.hbc_claims_io.proofs.Left.{plain-left, number-left, bytes-left, seek-left, align-left, leb-left, zero-left, prefix-left}
 use Rattle.hbc_claims_function.proofs.Scans.{count-le, scan-counts}
@@ -82,6 +87,9 @@ span-left : (o : Outcome Span) {start₀ len₀ r at start len : ℕ} → ReadsS
 span-left (got v n) t h = absurd (h (t .tells .says))
 span-left (refused k n) t h = (t .starts, t .counts)
 
+mark-left : {P : Type 0} {o : Outcome Bool} {exact₀ exact : ℕ} {k : Refusal} {n : Cursor} → Marked P o exact₀ exact → o ≡ refused k n → exact ≡ exact₀
+mark-left {exact₀ = exact₀} t e = t .marks ∙ ap (λ (o : Outcome Bool). valueIn (told (valued truth o)) exact₀) e
+
 -- where no refusal moves the cursor it is where it was
 at-left : {A : Type 0} {o : Outcome A} {r at at′ : ℕ} → ((k : Refusal) (n : Cursor) → refused k n ≡ o → n ≡ cursorAt at) → Stopped o r at′ → at′ ≡ at
 at-left f v = v .cursor ∙ ap (λ (c : Cursor). c .at) (f (v .why) (v .next) (v .was))
@@ -100,11 +108,18 @@ module _ (s : List ℕ) (at : ℕ) {r at′ : ℕ} (h : r ≡ 0 → ⊥) where
       → (at′ ≡ at) × (value ≡ before)
   hbc-plain w f t = (at-left (λ k n. plain-left s (cursorAt at) w f) (stopped _ (t .tells) h), value-left _ t h)
 
-  pub hbc-leb : {A : Type 0} (f : List ℕ → A) {before value : A} → Reads (valued f (lebBytes s (cursorAt at))) before r at′ value
-      → (k : Refusal) × (r ≡ codeOf k) × (at′ ≡ lebLeft s (cursorAt at) k .at) × (value ≡ before)
-  hbc-leb f t =
-      let v = stopped _ (t .tells) h in
-      (v .why, v .code, v .cursor ∙ ap (λ (c : Cursor). c .at) (leb-left s (cursorAt at) f (v .was)), value-left _ t h)
+  pub hbc-leb : {A : Type 0} (f : List ℕ → A) (mark : List ℕ → Bool) {before value : A} {exact₀ exact : ℕ}
+      → Marked (Reads (valued f (lebBytes s (cursorAt at))) before r at′ value) (valued mark (lebBytes s (cursorAt at))) exact₀ exact
+      → (k : Refusal) × (r ≡ codeOf k) × (at′ ≡ lebLeft s (cursorAt at) k .at) × (value ≡ before) × (exact ≡ exact₀)
+  hbc-leb f mark t =
+      let v = stopped _ (t .promised .tells) h in
+      let w : lebBytes s (cursorAt at) ≡ refused (v .why) (v .next) = valued-refused f (lebBytes s (cursorAt at)) (v .why) (v .next) (sym (v .was)) in (
+        v .why,
+        v .code,
+        v .cursor ∙ ap (λ (c : Cursor). c .at) (leb-left s (cursorAt at) f (v .was)),
+        value-left _ (t .promised) h,
+        mark-left t (ap (valued mark) w),
+      )
 
   module _ {start₀ len₀ start len : ℕ} where
     pub hbc-bytes : (n : ℕ) → ReadsSpan (bytesAt n s (cursorAt at)) start₀ len₀ r at′ start len → (at′ ≡ at) × (start ≡ start₀) × (len ≡ len₀)
@@ -117,12 +132,19 @@ module _ (s : List ℕ) (at : ℕ) {r at′ : ℕ} (h : r ≡ 0 → ⊥) where
         let u = span-left _ t h in
         (v .why, v .code, v .cursor ∙ ap (λ (c : Cursor). c .at) (zero-left s (cursorAt at) (v .was)), u .0, u .1)
 
-    pub hbc-prefixed : ReadsSpan (prefixed s (cursorAt at)) start₀ len₀ r at′ start len
-        → (k : Refusal) × (r ≡ codeOf k) × PrefixLeft s (cursorAt at) k (cursorAt at′) × (start ≡ start₀) × (len ≡ len₀)
+    pub hbc-prefixed : {exact₀ exact : ℕ}
+        → Marked (ReadsSpan (prefixed s (cursorAt at)) start₀ len₀ r at′ start len) (valued (λ (p : Prefixed). p .exact) (markedAt s (cursorAt at))) exact₀ exact
+        → (k : Refusal) × (r ≡ codeOf k) × PrefixLeft s (cursorAt at) k (cursorAt at′) × (start ≡ start₀) × (len ≡ len₀) × (exact ≡ exact₀)
     hbc-prefixed t =
-        let v = stopped _ (t .tells) h in
-        let u = span-left _ t h in
-        (v .why, v .code, subst (PrefixLeft s (cursorAt at) (v .why)) (ap cursorAt (sym (v .cursor))) (prefix-left s (cursorAt at) (v .was)), u .0, u .1)
+        let v = stopped _ (t .promised .tells) h in
+        let u = span-left _ (t .promised) h in (
+          v .why,
+          v .code,
+          subst (PrefixLeft s (cursorAt at) (v .why)) (ap cursorAt (sym (v .cursor))) (prefix-left s (cursorAt at) (v .was)),
+          u .0,
+          u .1,
+          mark-left t (ap (valued (λ (p : Prefixed). p .exact)) (mark-refused s (cursorAt at) (sym (v .was)))),
+        )
 
 -- ---- function tables
 
@@ -232,21 +254,27 @@ hbc-object keys values n offset count ks ps {r} {ks′} {ps′} h v = by (saysOb
 -- ---- handlers, sections, debug
 
 -- a number that is not 0 tells a refusal: numbers and words are as they were
-value-kept : {A R W : Type 0} {of : R → Answer A} {o : Answer A} {new before : W} {held value : A} {r : ℕ} {after : W} → (r ≡ 0 → ⊥)
-    → ToldValue of (Lends of o new before) held r after value → (after ≡ before) × (value ≡ held)
-value-kept {A} {R} {W} {of} {o} {new} {before} {held} {value} {r} {after} h v = by (of (v .answer)) refl
+value-kept : {A B R W : Type 0} {told : R → Answer A} {of : R → Answer B} {o : Answer B} {new before : W} {held value : A} {r : ℕ} {after : W}
+    → ((a : R) (k : Refusal) → told a ≡ refuses k → of a ≡ refuses k) → (r ≡ 0 → ⊥)
+    → ToldValue told (Lends of o new before) held r after value → (after ≡ before) × (value ≡ held)
+value-kept {A} {B} {R} {W} {told} {of} {o} {new} {before} {held} {value} {r} {after} one h v = by (told (v .answer)) refl
   where
-    by : (x : Answer A) → of (v .answer) ≡ x → (after ≡ before) × (value ≡ held)
+    by : (x : Answer A) → told (v .answer) ≡ x → (after ≡ before) × (value ≡ held)
     by (gives a) e = absurd (h (v .says ∙ ap (codeIn (always 0)) e))
-    by (refuses k) e = (rw e at (v .promised .leaves), rw e at (v .holds))
+    by (refuses k) e = let f = one (v .answer) k e in (rw f at (v .promised .leaves), rw e at (v .holds))
 
 pub hbc-handlers : (s functions : List ℕ) (count : ℕ) (before : List ℕ) {total₀ r total : ℕ} {after : List ℕ} → (r ≡ 0 → ⊥)
     → ToldHandlers s functions count before total₀ r after total → (after ≡ before) × (total ≡ total₀)
-hbc-handlers s functions count before h = value-kept h
+hbc-handlers s functions count before h = value-kept (λ a k e. e) h
 
-pub hbc-debug : (file : List ℕ) (offset : ℕ) (before : Tables) (held : Counts) {r : ℕ} {counts : Counts} {after : Tables} → (r ≡ 0 → ⊥)
-    → ToldDebug file offset before held r after counts → (after ≡ before) × (counts ≡ held)
-hbc-debug file offset before held h = value-kept h
+-- told in numbers or not, it is refused in the same way
+debug-refused : (a : Debugged) (k : Refusal) → saysLent a ≡ refuses k → saysDebug a ≡ refuses k
+debug-refused (debugged.Read n x) k e = absurd (not-given (sym e))
+debug-refused (debugged.Refused r) k e = cc
+
+pub hbc-debug : (file : List ℕ) (offset : ℕ) (before : Tables) (held : Numbers) {r : ℕ} {numbers : Numbers} {after : Tables} → (r ≡ 0 → ⊥)
+    → ToldDebug file offset before held r after numbers → (after ≡ before) × (numbers ≡ held)
+hbc-debug file offset before held h = value-kept debug-refused h
 
 -- hbc_trailing_sections
 sections-kept : (a : Answer Sections) (t : List ℕ) → 2 ^ 32 ≤ codeIn (always 5) a → intoBy a t ≡ t

@@ -2,13 +2,14 @@
 use Prim.Native.Nat.{ℕ}
 use mathlib.Core.Path.{_≡_, refl}
 use mathlib.Core.List.{List}
+use mathlib.Core.Bool.{Bool}
 use Rattle.hbc_io.specs.Outcome.{Outcome}
 use Rattle.hbc_io.specs.declared.Span.{Span}
 use Rattle.hbc_io.proofs.Exits.{alone}
 use Rattle.hbc_io.proofs.Alone.{oneMoved}
 use Rattle.hbc_c_code.specs.Told.{Moves, Reads}
 use Rattle.hbc_c_code.proofs.Tolds as told
-use Rattle.hbc_c_io.specs.Io.{ReadsSpan}
+use Rattle.hbc_c_io.specs.Io.{ReadsSpan, Marked}
 use Rattle.hbc_c_function.proofs.ByLayouts.{alone-by}
 use Rattle.hbc_claims_law.proofs.Law.{same}
 use Rattle.hbc_claims_function.proofs.Unique.{one-reading, one-refreshed, one-wrote}
@@ -29,6 +30,14 @@ span-one : {o : Outcome Span} {start₀ len₀ r q at at′ start start′ len l
     → ReadsSpan o start₀ len₀ q at′ start′ len′ → (r ≡ q) × (at ≡ at′) × (start ≡ start′) × (len ≡ len′)
 span-one e f = let m = moves-one (e .tells) (f .tells) in (m .0, m .1, same (e .starts) (f .starts), same (e .counts) (f .counts))
 
+module _ {marks : Outcome Bool} {exact₀ x y : ℕ} where
+  mark-one : {P Q : Type 0} → Marked P marks exact₀ x → Marked Q marks exact₀ y → x ≡ y
+  mark-one e f = same (e .marks) (f .marks)
+
+  leb-one : {A : Type 0} {o : Outcome A} {before v w : A} {r q at at′ : ℕ} → Marked (Reads o before r at v) marks exact₀ x
+      → Marked (Reads o before q at′ w) marks exact₀ y → (r ≡ q) × (at ≡ at′) × (v ≡ w) × (x ≡ y)
+  leb-one e f = let m = read-one (e .promised) (f .promised) in (m .0, m .1, m .2, mark-one e f)
+
 pub unique : Unique
 unique = record {
   code = λ k a r q s u. same;
@@ -43,11 +52,11 @@ unique = record {
   hbc_read_i8 = λ k a r q s u. read-one;
   hbc_read_i32 = λ k a r q s u. read-one;
   hbc_read_f64 = λ k a r q s u. read-one;
-  hbc_read_uleb128 = λ k a r q s u. read-one;
-  hbc_read_sleb128 = λ k a r q s u. read-one;
+  hbc_read_uleb128 = λ k a r q s u. leb-one;
+  hbc_read_sleb128 = λ k a r q s u. leb-one;
   hbc_read_bytes = λ k a r q s u. span-one;
   hbc_read_cstring = λ k a r q s u. span-one;
-  hbc_read_length_prefixed_string = λ k a r q s u. span-one;
+  hbc_read_length_prefixed_string = (λ k a r q s u e f. span-one (e .promised) (f .promised), λ k a r q s u. mark-one);
   hbc_read_functions = λ k a r q s u. alone-by (λ l. told.alone (λ x y. alone one-reading));
   hbc_refresh_functions = λ k a r q s u. alone-by (λ l. told.alone (λ x y. alone one-refreshed));
   hbc_write_functions = λ k a r q s u. alone-by (λ l. told.alone (λ x y. alone one-wrote));

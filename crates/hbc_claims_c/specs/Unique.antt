@@ -3,7 +3,7 @@
 use denote.Ref.{now}
 use Rattle.hbc_debug.specs.Debug.{tables}
 use Rattle.hbc_c_function.specs.Function.{places}
-use Rattle.hbc_c_debug.specs.Debug.{counts}
+use Rattle.hbc_c_debug.specs.Debug.{counts, lent}
 use Rattle.hbc_claims_law.specs.Law.{One, Words, Both, Both2, Both3}
 use Rattle.hbc_c_code.proofs.code.Reads as of-code
 use Rattle.hbc_c.proofs.io.hbc_bits.Reads as of-bits
@@ -54,11 +54,13 @@ pub record Unique : Type 0 where
   pub hbc_read_i8 : Both2 of-read-i8.Learnt (λ s. now (s .1 .0)) (λ s. now (s .1 .1 .0))
   pub hbc_read_i32 : Both2 of-read-i32.Learnt (λ s. now (s .1 .0)) (λ s. now (s .1 .1 .0))
   pub hbc_read_f64 : Both2 of-read-f64.Learnt (λ s. now (s .1 .0)) (λ s. now (s .1 .1 .0))
-  pub hbc_read_uleb128 : Both2 of-read-uleb128.Learnt (λ s. now (s .1 .0)) (λ s. now (s .1 .1 .0))
-  pub hbc_read_sleb128 : Both2 of-read-sleb128.Learnt (λ s. now (s .1 .0)) (λ s. now (s .1 .1 .0))
+  pub hbc_read_uleb128 : Both3 of-read-uleb128.Learnt (λ s. now (s .1 .0)) (λ s. now (s .1 .1 .0)) (λ s. now (s .1 .1 .1 .0))
+  pub hbc_read_sleb128 : Both3 of-read-sleb128.Learnt (λ s. now (s .1 .0)) (λ s. now (s .1 .1 .0)) (λ s. now (s .1 .1 .1 .0))
   pub hbc_read_bytes : Both3 of-read-bytes.Learnt (λ s. now (s .1 .0)) (λ s. now (s .1 .1 .1 .0)) (λ s. now (s .1 .1 .1 .1 .0))
   pub hbc_read_cstring : Both3 of-read-cstring.Learnt (λ s. now (s .1 .0)) (λ s. now (s .1 .1 .0)) (λ s. now (s .1 .1 .1 .0))
-  pub hbc_read_length_prefixed_string : Both3 of-read-length-prefixed-string.Learnt (λ s. now (s .1 .0)) (λ s. now (s .1 .1 .0)) (λ s. now (s .1 .1 .1 .0))
+  pub hbc_read_length_prefixed_string :
+      Both3 of-read-length-prefixed-string.Learnt (λ s. now (s .1 .0)) (λ s. now (s .1 .1 .0)) (λ s. now (s .1 .1 .1 .0))
+      × Words of-read-length-prefixed-string.Learnt (λ s. now (s .1 .1 .1 .1 .0))
   pub hbc_read_functions : Both of-read-functions.Learnt (λ s. now (s .1 .1 .1 .1 .0))
   pub hbc_refresh_functions : Both of-refresh-functions.Learnt (λ s. now (s .1 .1 .1 .1 .1 .1 .0))
   pub hbc_write_functions : Both of-write-functions.Learnt (λ s. now (s .1 .1 .1 .1 .1 .0))
@@ -80,5 +82,5 @@ pub record Unique : Type 0 where
   pub hbc_read_debug :
       Both2 of-read-debug.Learnt
       (λ s. tables (now (s .1 .1 .0)) (now (s .1 .1 .1 .0)) (now (s .1 .1 .1 .1 .0)) (now (s .1 .1 .1 .1 .1 .0)))
-      (λ s. counts (now (s .1 .1 .1 .1 .1 .1 .0)) (now (s .1 .1 .1 .1 .1 .1 .1 .0)) (now (s .1 .1 .1 .1 .1 .1 .1 .1 .0))
-      (now (s .1 .1 .1 .1 .1 .1 .1 .1 .1 .0)))
+      (λ s. lent (counts (now (s .1 .1 .1 .1 .1 .1 .0)) (now (s .1 .1 .1 .1 .1 .1 .1 .0)) (now (s .1 .1 .1 .1 .1 .1 .1 .1 .0))
+      (now (s .1 .1 .1 .1 .1 .1 .1 .1 .1 .0))) (now (s .1 .1 .1 .1 .1 .1 .1 .1 .1 .1 .0)))

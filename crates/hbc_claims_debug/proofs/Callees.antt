@@ -6,8 +6,10 @@ use Prim.Native.Nat.{ℕ, zero, suc, _≤_, _<_}
 use native.Mathlib.Omega.{arith}
 use borrow.Author.Tests.{eqb-true, eqb-false, eq-eqb}
 use lib.Dec.{eqb}
-use Rattle.hbc_debug_callees.specs.Callees.{addresses, Found, none, name, Callee, calleeIf, risingBelow, lastName, after1, calleesOf, pairsOf}
-use Rattle.hbc_debug_callees.specs.declared.Pair.{Pair}
+use Rattle.hbc_debug_pairs.specs.Pairs.{addresses}
+use Rattle.hbc_debug_pairs.specs.declared.Pair.{Pair}
+use Rattle.hbc_debug_rising.specs.Rising.{Found, none, name, Callee, calleeIf, risingBelow, lastName, after1}
+use Rattle.hbc_debug_callees.specs.Callees.{calleesOf, pairsOf}
 use Rattle.hbc_claims_law.specs.Terms.{Either, left, right}
 use Rattle.hbc_claims_debug.specs.Callees.{Between, Row, Silent, Names, Last, Rows, CalleesRead}
 

@@ -22,8 +22,9 @@ use Rattle.hbc_debug_parts.specs.declared.Parts.{Parts}
 use Rattle.hbc_debug_parts.specs.Parts.{partsOf}
 use Rattle.hbc_debug_strings.specs.Strings.{stringsOf, stringWidth, stringRow, stringWords}
 use Rattle.hbc_debug_scopes.specs.Scopes.{Scope, scopesOf, scopeWidth, scopeRow, scopeWords, nameCell, nameRow, nameWords, nameWord, nameCount, namesIn, parentWord}
-use Rattle.hbc_debug_callees.specs.Callees.{Callee, calleesOf, calleeWidth, calleeRow, calleeWords}
-use Rattle.hbc_debug.specs.Debug.{Tables, Contents, contentsAt, contentsIn, stringCount, countsOf, roomIn, fits, countsAnswer, partsGiven, ReadDebug}
+use Rattle.hbc_debug_rising.specs.Rising.{Callee, calleeRow}
+use Rattle.hbc_debug_callees.specs.Callees.{calleesOf, calleeWidth, calleeWords}
+use Rattle.hbc_debug.specs.Debug.{Tables, Contents, contentsAt, contentsIn, stringCount, countsOf, allExact, roomIn, fits, countsAnswer, partsGiven, ReadDebug}
 use Rattle.hbc_debug.specs.declared.Counts.{Counts}
 use Rattle.hbc_debug.specs.declared.Debugged.the-variants as debugged
 use Rattle.hbc_claims_law.specs.Terms.{Behind}
@@ -173,30 +174,38 @@ fits-all need room e =
       callees = leb-true (need .callees) (room .callees) (r .1);
     }
 
-record Given (b : Contents) (t : Tables) (k : Counts) : Type 0 where
+record Given (b : Contents) (t : Tables) (k : Counts) (e : Bool) : Type 0 where
   fit : Room (countsOf b) (roomIn t)
   is : k ≡ countsOf b
+  mark : e ≡ allExact b
 
-given-by : (b : Contents) (t : Tables) (k : Counts) (f : Bool) → fits (countsOf b) (roomIn t) ≡ f → cond f (gives (countsOf b)) (refusedAt 4 0) ≡ gives k → Given b t k
-given-by b t k true e g = record { fit = fits-all (countsOf b) (roomIn t) e; is = cc }
-given-by b t k false e g = absurd (not-given g)
+given-by : (b : Contents) (t : Tables) (k : Counts) (x : Bool) (f : Bool) → fits (countsOf b) (roomIn t) ≡ f
+    → cond {A = Answer (Counts × Bool)} f (gives (countsOf b, allExact b)) (refusedAt 4 0) ≡ gives (k, x) → Given b t k x
+given-by b t k x true e g =
+    let p : _≡_ {A = Counts × Bool} (countsOf b, allExact b) (k, x) = cc in
+    record { fit = fits-all (countsOf b) (roomIn t) e; is = sym (ap (λ (q : Counts × Bool). q .0) p); mark = sym (ap (λ (q : Counts × Bool). q .1) p) }
+given-by b t k x false e g = absurd (not-given g)
 
-given-in : (file : List ℕ) (t : Tables) (k : Counts) (a : Answer Parts) → andThen a (λ p. countsAnswer (contentsIn file p) t) ≡ gives k
-    → Given (contentsIn file (partsGiven a)) t k
+given-in : (file : List ℕ) (t : Tables) (k : Counts) (x : Bool) (a : Answer Parts) → andThen a (λ p. countsAnswer (contentsIn file p) t) ≡ gives (k, x)
+    → Given (contentsIn file (partsGiven a)) t k x
 unfolding choose
-given-in file t k (gives p) e = given-by (contentsIn file p) t k (fits (countsOf (contentsIn file p)) (roomIn t)) refl e
-given-in file t k (refuses r) e = absurd (not-given e)
+given-in file t k x (gives p) e = given-by (contentsIn file p) t k x (fits (countsOf (contentsIn file p)) (roomIn t)) refl e
+given-in file t k x (refuses r) e = absurd (not-given e)
 
-module _ (file : List ℕ) (offset : ℕ) (t : Tables) (k : Counts) (t′ : Tables) (v : ReadDebug file offset t (debugged.Read k) t′) where
+module _ (file : List ℕ) (offset : ℕ) (t : Tables) (k : Counts) (e : Bool) (t′ : Tables) (v : ReadDebug file offset t (debugged.Read k e) t′) where
   abbrev b : Contents
   b = contentsAt file offset
 
-  accepted : Given b t k
-  accepted = given-in file t k (partsOf file offset) (sym (v .says))
+  accepted : Given b t k e
+  accepted = given-in file t k e (partsOf file offset) (sym (v .says))
 
   -- the answer is how many of each there are
   pub counts-are : k ≡ countsOf b
   counts-are = accepted .is
+
+  -- and its mark whether every number that was read is exact
+  pub mark-is : e ≡ allExact b
+  mark-is = accepted .mark
 
   -- the string after those of xs
   pub string-row : (xs ys : List Span) (p : Span) → stringsOf (b .strings) ≡ xs ++ p ∷ ys → rowAt stringWidth (t′ .strings) (length xs) ≡ stringRow (b .base) p

@@ -12,6 +12,7 @@ use Rattle.hbc_debug_strings.specs.Strings.{saysStringsCounted}
 use Rattle.hbc_debug_scopes.specs.declared.ScopesCounted.{ScopesCounted}
 use Rattle.hbc_debug_scopes.specs.declared.ScopesCounted.the-variants as scopes
 use Rattle.hbc_debug_scopes.specs.Scopes.{saysScopesCounted}
+use Rattle.hbc_debug_pairs.proofs.Alone.{onePair}
 use Rattle.hbc_debug_callees.specs.declared.CalleesCounted.{CalleesCounted}
 use Rattle.hbc_debug_callees.specs.declared.CalleesCounted.the-variants as callees
 use Rattle.hbc_debug_callees.specs.Callees.{saysCalleesCounted}
@@ -52,6 +53,9 @@ unique = record {
   write_strings = λ k a r q s u. alone one-written;
   count_scopes = λ k a r q s u e f. one-scopes r q (same e f);
   write_scopes = λ k a r q s u. alone one-written;
+  read_pair = λ k a r q s u e f. onePair r q (same (e .is) (f .is)) (same (e .mark) (f .mark));
+  read_counter = λ k a r q s u e f. same e f;
+  write_below = λ k a r q s u e f. (same (e .end) (f .end), same (e .is) (f .is));
   count_callees = λ k a r q s u e f. one-callees r q (same e f);
   write_callees = λ k a r q s u. alone one-written;
   read_debug = λ k a r q s u. alone oneDebugged;

@@ -3,8 +3,10 @@ use mathlib.Core.Path.{_≡_}
 use mathlib.Core.Bool.{true}
 use mathlib.Core.List.{List, [], _∷_}
 use Prim.Native.Nat.{ℕ, suc, _≤_, _<_}
-use Rattle.hbc_debug_callees.specs.Callees.{addresses, Callee, calleesOf, pairsOf}
-use Rattle.hbc_debug_callees.specs.declared.Pair.{Pair}
+use Rattle.hbc_debug_pairs.specs.Pairs.{addresses}
+use Rattle.hbc_debug_pairs.specs.declared.Pair.{Pair}
+use Rattle.hbc_debug_rising.specs.Rising.{Callee}
+use Rattle.hbc_debug_callees.specs.Callees.{calleesOf, pairsOf}
 use Rattle.hbc_claims_law.specs.Terms.{Either}
 
 -- rows from lo up and below hi, each address above the one before: sorted, and one row an address

@@ -1,6 +1,7 @@
 -- docs/FORMAT.md, sections 7.2 to 7.5: small cases, by computation.
 use mathlib.Core.Path.{_≡_}
-use mathlib.Core.List.{[], _∷_}
+use mathlib.Core.List.{List, [], _∷_}
+use mathlib.Core.Bool.{true, false}
 use Prim.Native.Nat.{ℕ}
 use lib.IntN.{pos, negsuc}
 use lib.ListN.{length, getD}
@@ -8,11 +9,15 @@ use Rattle.hbc_io_leb.specs.Answers.{slebOf}
 use Rattle.hbc_io.specs.Answer.{gives, refusedAt}
 use Rattle.hbc_io.specs.Plain.{spanOf}
 use Rattle.hbc_io_leb.specs.Signed.{low32}
+use Rattle.hbc_io_leb.specs.Numbers.{unsigned, signed, exact}
+use Rattle.hbc_debug_parts.specs.Along.{every}
 use Rattle.hbc_debug_parts.specs.Parts.{noParts, noSection, partsOf}
-use Rattle.hbc_debug_strings.specs.Strings.{stringsOf}
-use Rattle.hbc_debug_scopes.specs.Scopes.{Scope, scopesOf, scopeWords, nameWords, scopeRow, nameCount, parentWord}
+use Rattle.hbc_debug_strings.specs.Strings.{stringsOf, stringNumbers}
+use Rattle.hbc_debug_scopes.specs.Scopes.{Scope, scopesOf, scopeWords, nameWords, scopeRow, nameCount, parentWord, scopeNumbers}
 use Rattle.hbc_debug_scopes.specs.Scopes.{scopeWidth, offsetPlace, parentPlace, flagsPlace, firstPlace, countPlace}
-use Rattle.hbc_debug_callees.specs.Callees.{pairsOf, lastName, none, name}
+use Rattle.hbc_debug_rising.specs.Rising.{lastName, none, name}
+use Rattle.hbc_debug_callees.specs.Callees.{pairsOf, calleeNumbers}
+use Rattle.hbc_debug.specs.Debug.{contentsIn, numbersRead, allExact}
 
 pub record Cases : Type 0 where
   -- two strings and a cut one: 02 41 42 01 43 05 44
@@ -37,8 +42,24 @@ pub record Cases : Type 0 where
   pub scope-above : scopesOf (0 ∷ 0 ∷ 1 ∷ []) ≡ []
   -- two entries with one address, 3 of them in all: the last known name wins: 03 07 00 07 01 07 05
   pub callee-last : lastName 7 none (pairsOf 2 (3 ∷ 7 ∷ 0 ∷ 7 ∷ 1 ∷ 7 ∷ 5 ∷ [])) ≡ name 1
+  -- numbers that were read: the length of a string that is cut, nine FF and 02; the parent and the flags of a scope that is given up, 80 01 02 80; a count
+  -- that is refused, 00 00 7F 00, and 05; an unknown name, 00 00 01 09, and 01 05 09; a callee's address whose name fails, 01 05 80, and nothing after an
+  -- address that fails, 01 80
+  pub cut-length : stringNumbers (255 ∷ 255 ∷ 255 ∷ 255 ∷ 255 ∷ 255 ∷ 255 ∷ 255 ∷ 255 ∷ 2 ∷ [])
+      ≡ unsigned (255 ∷ 255 ∷ 255 ∷ 255 ∷ 255 ∷ 255 ∷ 255 ∷ 255 ∷ 255 ∷ 2 ∷ []) ∷ []
+  pub cut-length-lost : every exact (stringNumbers (255 ∷ 255 ∷ 255 ∷ 255 ∷ 255 ∷ 255 ∷ 255 ∷ 255 ∷ 255 ∷ 2 ∷ [])) ≡ false
+  pub given-up : scopeNumbers (128 ∷ 1 ∷ 2 ∷ 128 ∷ []) ≡ signed (128 ∷ 1 ∷ []) ∷ signed (2 ∷ []) ∷ []
+  pub refused-count : scopeNumbers (0 ∷ 0 ∷ 127 ∷ 0 ∷ []) ≡ signed (0 ∷ []) ∷ signed (0 ∷ []) ∷ signed (127 ∷ []) ∷ []
+  pub refused-callees : calleeNumbers 1 (5 ∷ []) ≡ signed (5 ∷ []) ∷ []
+  pub unknown-name : scopeNumbers (0 ∷ 0 ∷ 1 ∷ 9 ∷ []) ≡ signed (0 ∷ []) ∷ signed (0 ∷ []) ∷ signed (1 ∷ []) ∷ signed (9 ∷ []) ∷ []
+  pub unknown-callee : calleeNumbers 1 (1 ∷ 5 ∷ 9 ∷ []) ≡ signed (1 ∷ []) ∷ signed (5 ∷ []) ∷ signed (9 ∷ []) ∷ []
+  pub name-fails : calleeNumbers 1 (1 ∷ 5 ∷ 128 ∷ []) ≡ signed (1 ∷ []) ∷ signed (5 ∷ []) ∷ []
+  pub address-fails : calleeNumbers 1 (1 ∷ 128 ∷ []) ≡ signed (1 ∷ []) ∷ []
   -- offset 0 is empty, and so is 2^32 - 1 and the end; a header that is too short is refused 3
   pub empty-0 : partsOf (1 ∷ 2 ∷ []) 0 ≡ gives noParts
   pub empty-all-ones : partsOf (1 ∷ 2 ∷ []) noSection ≡ gives noParts
   pub empty-end : partsOf (1 ∷ 2 ∷ []) 2 ≡ gives noParts
   pub short-header : partsOf (1 ∷ 2 ∷ []) 1 ≡ refusedAt 3 0
+  -- nothing is read of an empty section, whatever the file, and then the mark is true
+  pub none-read : (file : List ℕ) → numbersRead (contentsIn file noParts) ≡ []
+  pub none-exact : (file : List ℕ) → allExact (contentsIn file noParts) ≡ true

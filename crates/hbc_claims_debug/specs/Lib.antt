@@ -2,4 +2,5 @@ pub mod AllRead
 pub mod Callees
 pub mod Cases
 pub mod Left
+pub mod Marks
 pub mod Unique

@@ -8,14 +8,14 @@ use Rattle.hbc_io.specs.Outcome.{Outcome, got, refused, valued, refusal, limit,
 use Rattle.hbc_io.specs.Plain.{started, plainAt, bytesAt, seekTo, alignTo, alignedUp}
 use Rattle.hbc_io.specs.declared.Cursor.{Cursor}
 use Rattle.hbc_io.specs.declared.Refusal.{Refusal}
-use Rattle.hbc_io.specs.declared.Span.{Span}
 use Rattle.hbc_io.proofs.Reading.{not-both, valued-refused}
 use Rattle.hbc_io_leb.specs.Leb.{lebBytes, going}
 use Rattle.hbc_io_leb.specs.Answers.{ulebOf, slebOf}
 use Rattle.hbc_io_leb.specs.Signed.{slebAt}
 use Rattle.hbc_io_leb.specs.declared.Sleb.{Sleb}
-use Rattle.hbc_io_strings.specs.Strings.{zeroEnded, before0, prefixed}
-use Rattle.hbc_io_strings.proofs.Strings.{prefix-got, prefix-refused}
+use Rattle.hbc_io_strings.specs.Strings.{zeroEnded, before0, prefixed, stringOf, markedAt}
+use Rattle.hbc_io_strings.specs.declared.Prefixed.{Prefixed}
+use Rattle.hbc_io_strings.proofs.Strings.{prefix-got, prefix-refused, mark-refused}
 use Rattle.hbc_claims_law.proofs.Tests.{either}
 use Rattle.hbc_claims_law.specs.Terms.{stays, lebLeft, textLeft, PrefixLeft, no-length, no-bytes}
 
@@ -81,18 +81,22 @@ module _ (s : List ℕ) (c : Cursor) {k : Refusal} {n : Cursor} where
       either (leb (length s) (c .at + before0 (drop (c .at) s))) p (by-number (textLeft s c) 9 _ refl) (λ q. absurd (not-both refl q)))
 
 module _ (s : List ℕ) (c : Cursor) {k : Refusal} {n : Cursor} where
-  by-prefix : (o : Outcome (List ℕ)) → lebBytes s c ≡ o → refused k n ≡ prefixed s c → PrefixLeft s c k n
+  by-prefix : (o : Outcome (List ℕ)) → lebBytes s c ≡ o → markedAt s c ≡ refused k n → PrefixLeft s c k n
   by-prefix (got bs m) e p =
-      let q : refused k n ≡ bytesAt (ulebOf bs .value) s m = p ∙ prefix-got s c (ap (valued ulebOf) e) in
-      let l : n ≡ m = bytes-left s m (ulebOf bs .value) q in
+      let u = ulebOf bs in
+      let q : valued (stringOf u) (bytesAt (u .value) s m) ≡ refused k n = sym (prefix-got s c (ap (valued ulebOf) e) refl) ∙ p in
+      let l : n ≡ m = bytes-left s m (u .value) (sym (valued-refused (stringOf u) (bytesAt (u .value) s m) k n q)) in
       no-bytes bs (e ∙ ap (got bs) (sym l))
   by-prefix (refused r m) e p =
-      let q : _≡_ {A = Outcome Span} (refused k n) (refused r m) = p ∙ prefix-refused s c (ap (valued ulebOf) e) in
+      let q : _≡_ {A = Outcome Prefixed} (refused r m) (refused k n) = sym (prefix-refused s c (ap (valued ulebOf) e)) ∙ p in
       let x : r ≡ k = cc in
       let y : m ≡ n = cc in
       let z : lebBytes s c ≡ refused k n = rw (e, x, y) in
       no-length z (leb-left s c ulebOf (sym (ap (valued ulebOf) z)))
 
-  -- a string with its length in front
+  -- a string with its length in front, with the mark of that and without
+  pub marked-left : refused k n ≡ markedAt s c → PrefixLeft s c k n
+  marked-left e = by-prefix (lebBytes s c) refl (sym e)
+
   pub prefix-left : refused k n ≡ prefixed s c → PrefixLeft s c k n
-  prefix-left e = by-prefix (lebBytes s c) refl e
+  prefix-left e = by-prefix (lebBytes s c) refl (mark-refused s c (sym e))

@@ -1,6 +1,7 @@
 -- Each call leaves one outcome: its promise fixes the answer and every lent word.
 use Rattle.hbc_io.proofs.Alone.{oneU8, oneU16, oneU32, oneU64, oneI8, oneI32, oneF64, oneSpan, oneMoved, onePart}
 use Rattle.hbc_io_leb.proofs.Alone.{oneUleb, oneSleb, oneHeld}
+use Rattle.hbc_io_strings.proofs.Alone.{onePrefixed}
 use Rattle.hbc_claims_law.proofs.Law.{same}
 use Rattle.hbc_claims_io.specs.Unique.{Unique}
 
@@ -29,7 +30,7 @@ unique = record {
   read_sleb128 = λ k a r q s u e f. oneSleb r q (same e f);
   signed64 = λ k a r q s u. same;
   read_cstring = λ k a r q s u e f. oneSpan r q (same e f);
-  read_length_prefixed_string = λ k a r q s u e f. oneSpan r q (same e f);
+  read_length_prefixed_string = λ k a r q s u e f. onePrefixed r q (same e f);
   u8_at = λ k a r q s u. same;
   u16_at = λ k a r q s u. same;
   u32_at = λ k a r q s u. same;

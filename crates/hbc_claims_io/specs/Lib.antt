@@ -1,2 +1,3 @@
+pub mod Leb128
 pub mod Unique
 pub mod Reader

@@ -32,6 +32,11 @@ pub data Either (A B : Type 0) : Type 0 where
   left : A → Either A B
   right : B → Either A B
 
+-- a mark is true exactly when something holds
+pub record Exactly (mark : Bool) (A : Type 0) : Type 0 where
+  pub holds : mark ≡ true → A
+  pub only : A → mark ≡ true
+
 -- how many numbers below n are chosen
 unfoldable pub countOf : (ℕ → Bool) → ℕ → ℕ
 countOf chosen zero = 0

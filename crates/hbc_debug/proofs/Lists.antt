@@ -10,23 +10,26 @@ use Rattle.hbc_io.specs.Answer.{Answer, gives, refuses}
 use Rattle.hbc_io.specs.Lends.{written}
 use Rattle.hbc_io.specs.declared.Refusal.{Refusal}
 use Rattle.hbc_io.proofs.Exits.{words, not-given}
+use Rattle.hbc_io_leb.specs.Numbers.{exact}
 use Rattle.hbc_rows.specs.Rows.{rows}
 use Rattle.hbc_rows.specs.Until.{flat, flatFrom}
 use Rattle.hbc_debug_parts.specs.declared.InFile.{InFile}
 use Rattle.hbc_debug_parts.specs.declared.Written.{Written}
 use Rattle.hbc_debug_parts.specs.Lists.{inLimit, withRoom, inFront}
+use Rattle.hbc_debug_parts.specs.Along.{every}
 use Rattle.hbc_debug_parts.proofs.Fronts.{limit-in, room-in, front-all}
-use Rattle.hbc_debug_strings.specs.Strings.{stringsOf, stringWidth, stringRow, stringWords, saysStringsCounted, countStrings, WriteStrings}
+use Rattle.hbc_debug_strings.specs.Strings.{stringsOf, stringWidth, stringRow, stringWords, stringNumbers, saysStringsCounted, countStrings, WriteStrings}
 use Rattle.hbc_debug_strings.specs.declared.StringCount.{StringCount}
 use Rattle.hbc_debug_strings.specs.declared.StringsCounted.{StringsCounted}
 use Rattle.hbc_debug_strings.specs.declared.StringsCounted.the-variants as strings
-use Rattle.hbc_debug_scopes.specs.Scopes.{Scope, scopesOf, scopeWidth, scopeRow, scopeWords, nameCount, nameRow, nameWords, namesIn, saysScopesCounted, countScopes, WriteScopes}
+use Rattle.hbc_debug_scopes.specs.Scopes.{Scope, scopesOf, scopeWidth, scopeRow, scopeWords, nameCount, nameRow, nameWords, namesIn, scopeNumbers, saysScopesCounted, countScopes, WriteScopes}
 use Rattle.hbc_debug_scopes.specs.declared.ScopesCounted.{ScopesCounted}
 use Rattle.hbc_debug_scopes.specs.declared.ScopesCounted.the-variants as scopes
 use Rattle.hbc_debug_scopes.specs.Private.{ScopesAre, RowsAre}
 use Rattle.hbc_debug_scopes.specs.declared.ScopeCounts.{ScopeCounts}
 use Rattle.hbc_debug_scopes.proofs.Fronts.{length-cells, row-size}
-use Rattle.hbc_debug_callees.specs.Callees.{calleesOf, calleeWidth, calleeRow, calleeWords, saysCalleesCounted, countCallees, WriteCallees}
+use Rattle.hbc_debug_rising.specs.Rising.{calleeRow}
+use Rattle.hbc_debug_callees.specs.Callees.{calleesOf, calleeWidth, calleeWords, calleeNumbers, saysCalleesCounted, countCallees, WriteCallees}
 use Rattle.hbc_debug_callees.specs.declared.CalleeCount.{CalleeCount}
 use Rattle.hbc_debug_callees.specs.declared.CalleesCounted.{CalleesCounted}
 use Rattle.hbc_debug_callees.specs.declared.CalleesCounted.the-variants as callees
@@ -61,32 +64,39 @@ module _ {A : Type 0} (a : A) (end : ℕ) (h : end ≤ limit) where
   counted-not e = not-given (e ∙ sym (limit-in (gives a) end h))
 
 module _ (s : List ℕ) (h : length s ≤ limit) where
-  pub strings-counted : {r : StringsCounted} {k : StringCount} → saysStringsCounted r ≡ countStrings s → r ≡ strings.Counts k → k .strings ≡ length (stringsOf s)
+  pub strings-counted : {r : StringsCounted} {k : StringCount} → saysStringsCounted r ≡ countStrings s → r ≡ strings.Counts k
+      → (k .strings ≡ length (stringsOf s)) × (k .exact ≡ every exact (stringNumbers s))
   unfolding countStrings
-  strings-counted e f = ap (λ (n : StringCount). n .strings) (counted-is (record { strings = length (stringsOf s) }) (length s) h (sym (ap saysStringsCounted f) ∙ e))
+  strings-counted e f =
+      let q = counted-is (record { strings = length (stringsOf s); exact = every exact (stringNumbers s) }) (length s) h (sym (ap saysStringsCounted f) ∙ e) in
+      (ap (λ (n : StringCount). n .strings) q, ap (λ (n : StringCount). n .exact) q)
 
   pub strings-not : {r : StringsCounted} {x : Refusal} → saysStringsCounted r ≡ countStrings s → r ≡ strings.Refused x → ⊥
   unfolding countStrings
-  strings-not e f = counted-not (record { strings = length (stringsOf s) }) (length s) h (sym (ap saysStringsCounted f) ∙ e)
+  strings-not e f = counted-not _ (length s) h (sym (ap saysStringsCounted f) ∙ e)
 
-  pub scopes-counted : {r : ScopesCounted} {k : ScopeCounts} → saysScopesCounted r ≡ countScopes s → r ≡ scopes.Counts k → ScopesAre s (k .scopes) (k .names)
+  pub scopes-counted : {r : ScopesCounted} {k : ScopeCounts} → saysScopesCounted r ≡ countScopes s → r ≡ scopes.Counts k
+      → ScopesAre s (k .scopes) (k .names) × (k .exact ≡ every exact (scopeNumbers s))
   unfolding countScopes
   scopes-counted e f =
-      let q = counted-is (record { scopes = length (scopesOf s); names = namesIn (scopesOf s) }) (length s) h (sym (ap saysScopesCounted f) ∙ e) in
-      record { scopes-are = ap (λ (n : ScopeCounts). n .scopes) q; names-are = ap (λ (n : ScopeCounts). n .names) q }
+      let q = counted-is (record { scopes = length (scopesOf s); names = namesIn (scopesOf s); exact = every exact (scopeNumbers s) }) (length s) h (sym (ap saysScopesCounted f) ∙ e) in
+      (record { scopes-are = ap (λ (n : ScopeCounts). n .scopes) q; names-are = ap (λ (n : ScopeCounts). n .names) q }, ap (λ (n : ScopeCounts). n .exact) q)
 
   pub scopes-not : {r : ScopesCounted} {x : Refusal} → saysScopesCounted r ≡ countScopes s → r ≡ scopes.Refused x → ⊥
   unfolding countScopes
-  scopes-not e f = counted-not (record { scopes = length (scopesOf s); names = namesIn (scopesOf s) }) (length s) h (sym (ap saysScopesCounted f) ∙ e)
+  scopes-not e f = counted-not _ (length s) h (sym (ap saysScopesCounted f) ∙ e)
 
   module _ (n : ℕ) where
-    pub callees-counted : {r : CalleesCounted} {k : CalleeCount} → saysCalleesCounted r ≡ countCallees n s → r ≡ callees.Counts k → k .callees ≡ length (calleesOf n s)
+    pub callees-counted : {r : CalleesCounted} {k : CalleeCount} → saysCalleesCounted r ≡ countCallees n s → r ≡ callees.Counts k
+        → (k .callees ≡ length (calleesOf n s)) × (k .exact ≡ every exact (calleeNumbers n s))
     unfolding countCallees
-    callees-counted e f = ap (λ (m : CalleeCount). m .callees) (counted-is (record { callees = length (calleesOf n s) }) (length s) h (sym (ap saysCalleesCounted f) ∙ e))
+    callees-counted e f =
+        let q = counted-is (record { callees = length (calleesOf n s); exact = every exact (calleeNumbers n s) }) (length s) h (sym (ap saysCalleesCounted f) ∙ e) in
+        (ap (λ (m : CalleeCount). m .callees) q, ap (λ (m : CalleeCount). m .exact) q)
 
     pub callees-not : {r : CalleesCounted} {x : Refusal} → saysCalleesCounted r ≡ countCallees n s → r ≡ callees.Refused x → ⊥
     unfolding countCallees
-    callees-not e f = counted-not (record { callees = length (calleesOf n s) }) (length s) h (sym (ap saysCalleesCounted f) ∙ e)
+    callees-not e f = counted-not _ (length s) h (sym (ap saysCalleesCounted f) ∙ e)
 
 -- ---- writing
 

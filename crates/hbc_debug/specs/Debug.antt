@@ -1,19 +1,21 @@
 -- docs/FORMAT.md, section 7.6: the four tables of the debug section, and what each holds afterwards.
 use Prim.Native.Nat.{ℕ}
-use mathlib.Core.List.{List}
+use mathlib.Core.List.{List, _++_}
 use mathlib.Core.Bool.{Bool, false, cond}
 use lib.ListN.{length}
 use lib.Seq.{sets}
 use lib.Dec.{leb}
 use Rattle.hbc_io.specs.Answer.{Answer, gives, refuses, refusedAt, andThen}
 use Rattle.hbc_io.specs.Lends.{choose, Lends}
+use Rattle.hbc_io_leb.specs.Numbers.{Number, exact}
 use Rattle.hbc_rows.specs.Rows.{rows}
 use Rattle.hbc_debug_parts.specs.Parts.{noParts, partsOf, partBytes}
+use Rattle.hbc_debug_parts.specs.Along.{every}
 use Rattle.hbc_debug_parts.specs.declared.InFile.{InFile}
 use Rattle.hbc_debug_parts.specs.declared.Parts.{Parts}
-use Rattle.hbc_debug_strings.specs.Strings.{stringsOf, stringWidth, stringWords}
-use Rattle.hbc_debug_scopes.specs.Scopes.{scopesOf, scopeWidth, scopeWords, nameWords, namesIn}
-use Rattle.hbc_debug_callees.specs.Callees.{calleesOf, calleeWidth, calleeWords}
+use Rattle.hbc_debug_strings.specs.Strings.{stringsOf, stringWidth, stringWords, stringNumbers}
+use Rattle.hbc_debug_scopes.specs.Scopes.{scopesOf, scopeWidth, scopeWords, nameWords, namesIn, scopeNumbers}
+use Rattle.hbc_debug_callees.specs.Callees.{calleesOf, calleeWidth, calleeWords, calleeNumbers}
 use Rattle.hbc_debug.specs.declared.Counts.{Counts}
 use Rattle.hbc_debug.specs.declared.Debugged.{Debugged}
 use Rattle.hbc_debug.specs.declared.Debugged.the-variants as debugged
@@ -55,6 +57,14 @@ countsOf b =
       callees = length (calleesOf (stringCount b) (b .callees));
     }
 
+-- every LEB128 number that is read of them: of the scopes, of the callees, of the strings, in each in the order of its bytes
+unfoldable pub numbersRead : Contents → List Number
+numbersRead b = scopeNumbers (b .scopes) ++ (calleeNumbers (stringCount b) (b .callees) ++ stringNumbers (b .strings))
+
+-- the mark: every one of them is exact
+unfoldable pub allExact : Contents → Bool
+allExact b = every exact (numbersRead b)
+
 -- and how many it has room for; a name is one word
 abbrev pub roomIn : Tables → Counts
 roomIn t =
@@ -80,11 +90,11 @@ withRows b t =
     (sets (t .callees) 0 (calleeWords (calleesOf (stringCount b) (b .callees))))
 
 -- 4 if one of the tables is short: all are looked at together
-abbrev pub countsAnswer : Contents → Tables → Answer Counts
-countsAnswer b t = choose (fits (countsOf b) (roomIn t)) (gives (countsOf b)) (refusedAt 4 0)
+abbrev pub countsAnswer : Contents → Tables → Answer (Counts × Bool)
+countsAnswer b t = choose (fits (countsOf b) (roomIn t)) (gives (countsOf b, allExact b)) (refusedAt 4 0)
 
 -- the section at an offset: 1 and 3 come first, with its parts
-abbrev pub debugAnswer : List ℕ → ℕ → Tables → Answer Counts
+abbrev pub debugAnswer : List ℕ → ℕ → Tables → Answer (Counts × Bool)
 debugAnswer file offset t = andThen (partsOf file offset) (λ p. countsAnswer (contentsIn file p) t)
 
 -- what its parts hold; empty ones where they are refused
@@ -95,11 +105,11 @@ partsGiven (refuses r) = noParts
 abbrev pub contentsAt : List ℕ → ℕ → Contents
 contentsAt file offset = contentsIn file (partsGiven (partsOf file offset))
 
--- what each case of an answer says: the four counts, or the refusal
-abbrev pub saysDebug : Debugged → Answer Counts
-saysDebug (debugged.Read k) = gives k
+-- what each case of an answer says: the four counts and the mark, or the refusal
+abbrev pub saysDebug : Debugged → Answer (Counts × Bool)
+saysDebug (debugged.Read k e) = gives (k, e)
 saysDebug (debugged.Refused r) = refuses r
 
--- the promise: the counts, and every word of the four tables
+-- the promise: the counts, the mark, and every word of the four tables
 abbrev pub ReadDebug : List ℕ → ℕ → Tables → Debugged → Tables → Type 0
 ReadDebug file offset before = Lends saysDebug (debugAnswer file offset before) (withRows (contentsAt file offset) before) before

@@ -5,14 +5,16 @@ ghost use Prim.Native.Nat.{_+_, _≤_};
 ghost use lib.ListN.{length};
 ghost use lib.Seq.{sets};
 ghost use Rattle.hbc_io.specs.Outcome.{limit};
+ghost use Rattle.hbc_io_leb.specs.Numbers.{exact};
 ghost use Rattle.hbc_rows.specs.Rows.{rows};
-ghost use Rattle.hbc_debug_strings.specs.Strings.{stringsOf, stringWidth, stringWords};
+ghost use Rattle.hbc_debug_parts.specs.Along.{every};
+ghost use Rattle.hbc_debug_strings.specs.Strings.{stringsOf, stringWidth, stringWords, stringNumbers};
 ghost use Rattle.hbc_debug_scopes.specs.Private.{ScopesAre, RowsAre};
-ghost use Rattle.hbc_debug_scopes.specs.Scopes.{scopeWidth};
-ghost use Rattle.hbc_debug_callees.specs.Callees.{calleesOf, calleeWidth, calleeWords};
+ghost use Rattle.hbc_debug_scopes.specs.Scopes.{scopeWidth, scopeNumbers};
+ghost use Rattle.hbc_debug_callees.specs.Callees.{calleesOf, calleeWidth, calleeWords, calleeNumbers};
 ghost use Rattle.hbc_debug.specs.Debug.{tables, contents, fits, ReadDebug};
 ghost use Rattle.hbc_debug.specs.Private.{ReadParts};
-use hbc_debug_callees::CALLEE_WORDS;
+use hbc_debug_callees::CalleeCount;
 use hbc_debug_callees::CalleesCounted;
 use hbc_debug_callees::count_callees;
 use hbc_debug_callees::write_callees;
@@ -20,12 +22,14 @@ use hbc_debug_parts::InFile;
 use hbc_debug_parts::PartsFound;
 use hbc_debug_parts::find_parts;
 use hbc_debug_parts::part_bytes;
+use hbc_debug_rising::CALLEE_WORDS;
 use hbc_debug_scopes::SCOPE_WORDS;
 use hbc_debug_scopes::ScopeCounts;
 use hbc_debug_scopes::ScopesCounted;
 use hbc_debug_scopes::count_scopes;
 use hbc_debug_scopes::write_scopes;
 use hbc_debug_strings::STRING_WORDS;
+use hbc_debug_strings::StringCount;
 use hbc_debug_strings::StringsCounted;
 use hbc_debug_strings::count_strings;
 use hbc_debug_strings::write_strings;
@@ -40,8 +44,9 @@ pub struct Counts {
     pub callees: usize,
 }
 
+// The counts, and whether every LEB128 number that was read was exact.
 pub enum Debugged {
-    Read(Counts),
+    Read(Counts, bool),
     Refused(Refusal),
 }
 
@@ -60,36 +65,43 @@ fn fits(need: Counts, room: Counts) -> bool
 }
 
 // The counts of the parts of a file that was found short enough, so that none is refused.
-fn string_count(part: &[u8]) -> usize
+fn string_count(part: &[u8]) -> StringCount
     requires { ⌜ length (now part) ≤ limit ⌝ }
-    ensures { λ r. ⌜ r ≡ length (stringsOf (now (part .entry))) ⌝ }
+    ensures { λ r. ⌜ (r .strings ≡ length (stringsOf (now (part .entry)))) × (r .exact ≡ every exact (stringNumbers (now (part .entry)))) ⌝ }
 {
     match count_strings(part) {
-        StringsCounted::Counts(k) => k.strings,
-        StringsCounted::Refused(r) => 0,
+        StringsCounted::Counts(k) => k,
+        StringsCounted::Refused(r) => StringCount {
+            strings: 0,
+            exact: true,
+        },
     }
 }
 
 fn scope_counts(part: &[u8]) -> ScopeCounts
     requires { ⌜ length (now part) ≤ limit ⌝ }
-    ensures { λ r. ⌜ ScopesAre (now (part .entry)) (r .scopes) (r .names) ⌝ }
+    ensures { λ r. ⌜ ScopesAre (now (part .entry)) (r .scopes) (r .names) × (r .exact ≡ every exact (scopeNumbers (now (part .entry)))) ⌝ }
 {
     match count_scopes(part) {
         ScopesCounted::Counts(k) => k,
         ScopesCounted::Refused(r) => ScopeCounts {
             scopes: 0,
             names: 0,
+            exact: true,
         },
     }
 }
 
-fn callee_count(part: &[u8], strings: u32) -> usize
+fn callee_count(part: &[u8], strings: u32) -> CalleeCount
     requires { ⌜ length (now part) ≤ limit ⌝ }
-    ensures { λ r. ⌜ r ≡ length (calleesOf strings (now (part .entry))) ⌝ }
+    ensures { λ r. ⌜ (r .callees ≡ length (calleesOf strings (now (part .entry)))) × (r .exact ≡ every exact (calleeNumbers strings (now (part .entry)))) ⌝ }
 {
     match count_callees(part, strings) {
-        CalleesCounted::Counts(k) => k.callees,
-        CalleesCounted::Refused(r) => 0,
+        CalleesCounted::Counts(k) => k,
+        CalleesCounted::Refused(r) => CalleeCount {
+            callees: 0,
+            exact: true,
+        },
     }
 }
 
@@ -131,14 +143,15 @@ fn read_parts(
         (tables (now (strings .entry)) (now (scopes .entry)) (now (names .entry)) (now (callees .entry)))
         r (tables (now (strings .exit)) (now (scopes .exit)) (now (names .exit)) (now (callees .exit))) ⌝ }
 {
-    let n = string_count(string_part);
+    let counted = string_count(string_part);
+    let n = counted.strings;
     let found = scope_counts(scope_part);
     let k = callee_count(callee_part, n as u32);
     let need = Counts {
         strings: n,
         scopes: found.scopes,
         names: found.names,
-        callees: k,
+        callees: k.callees,
     };
     let room = Counts {
         strings: strings.len() / STRING_WORDS,
@@ -149,8 +162,8 @@ fn read_parts(
     if fits(need, room) {
         put_strings(string_part, base, n, strings);
         put_scopes(scope_part, n as u32, found, scopes, names);
-        put_callees(callee_part, n as u32, k, callees);
-        return Debugged::Read(need);
+        put_callees(callee_part, n as u32, k.callees, callees);
+        return Debugged::Read(need, found.exact & (k.exact & counted.exact));
     }
     Debugged::Refused(refuse(4, 0))
 }

@@ -3,7 +3,7 @@
 use Prim.Native.Nat.{ℕ}
 use mathlib.Core.Path.{_≡_}
 use mathlib.Core.List.{List}
-use mathlib.Core.Bool.{cond}
+use mathlib.Core.Bool.{Bool, cond}
 use lib.ListN.{length}
 use lib.Seq.{sets}
 use lib.Dec.{ltb}
@@ -23,8 +23,13 @@ abbrev pub headOf : Front → Head
 headOf h = record { parent = parentWord (h .parent); flags = low32 (h .flags); count = h .count }
 
 abbrev pub saysHead : ReadHead → Outcome Head
-saysHead (head.Got v n) = got v n
-saysHead (head.Refused f n) = refused (f .refusal) n
+saysHead (head.Got v n e) = got v n
+saysHead (head.Refused f n e) = refused (f .refusal) n
+
+-- whether the numbers of a front are exact, as far as they were read
+abbrev pub markOf : ReadHead → Bool
+markOf (head.Got v n e) = e
+markOf (head.Refused f n e) = e
 
 -- how many rows each of the two tables takes
 pub record ScopesAre (s : List ℕ) (scopes names : ℕ) : Type 0 where

@@ -1,6 +1,6 @@
 -- docs/FORMAT.md, section 7.4: the scopes of a part, their names, and their rows.
 use Prim.Native.Nat.{ℕ, _*_, _-_}
-use mathlib.Core.List.{List, [], _∷_}
+use mathlib.Core.List.{List, [], _∷_, _++_}
 use mathlib.Core.Bool.{cond}
 use lib.ListN.{length}
 use lib.IntN.{ℤ}
@@ -13,9 +13,12 @@ use Rattle.hbc_rows.specs.Rows.{rows}
 use Rattle.hbc_rows.specs.Until.{until, after, flat, flatFrom, sum}
 use Rattle.hbc_debug_parts.specs.declared.Written.{Written}
 use Rattle.hbc_debug_parts.specs.Lists.{saysWritten, inLimit, withRoom, inFront}
+use Rattle.hbc_debug_parts.specs.Along.{along, onward, every}
 use Rattle.hbc_debug_scopes.specs.declared.ScopeCounts.{ScopeCounts}
 use Rattle.hbc_debug_scopes.specs.declared.ScopesCounted.{ScopesCounted}
 use Rattle.hbc_debug_scopes.specs.declared.ScopesCounted.the-variants as counted
+use Rattle.hbc_io_leb.specs.Leb.{lebBytes}
+use Rattle.hbc_io_leb.specs.Numbers.{Number, signed, exact, andNext, noMore}
 use Rattle.hbc_io_leb.specs.Signed.{slebAt, upTo, under, natural, low32}
 
 -- what stands before the names
@@ -107,15 +110,36 @@ nameWords n xs = flat (nameRow n) xs
 abbrev pub namesIn : List Scope → ℕ
 namesIn xs = sum nameCount xs
 
+-- ---- the numbers that are read, in file order
+
+-- parent, flags, name count, as far as they are read; a count that is refused is one of them
+unfoldable pub frontNumbers : List ℕ → Cursor → List Number
+frontNumbers s c =
+    andNext signed (lebBytes s c) (λ c₁.
+    andNext signed (lebBytes s c₁) (λ c₂.
+    andNext signed (lebBytes s c₂) noMore))
+
+-- a name, if it is read
+unfoldable pub nameNumber : List ℕ → Cursor → List Number
+nameNumber s c = andNext signed (lebBytes s c) noMore
+
+-- the front's, and the names' where the scope is not given up
+unfoldable pub numbersAt : List ℕ → Cursor → List Number
+numbersAt s c = frontNumbers s c ++ onward (frontAt s c) (λ h n. along (slebAt s) (nameNumber s) (h .count) n)
+
+-- those of a part, with those of the scope that is given up
+unfoldable pub scopeNumbers : List ℕ → List Number
+scopeNumbers s = along (scopeAt s) (numbersAt s) (length s) (cursorAt 0)
+
 -- ---- the calls
 
 abbrev pub saysScopesCounted : ScopesCounted → Answer ScopeCounts
 saysScopesCounted (counted.Counts n) = gives n
 saysScopesCounted (counted.Refused r) = refuses r
 
--- how many rows each of the two tables takes; 1 for a part of more than 2^30 bytes
+-- how many rows each of the two tables takes, and whether every number that was read is exact; 1 for a part of more than 2^30 bytes
 unfoldable pub countScopes : List ℕ → Answer ScopeCounts
-countScopes s = inLimit (length s) (gives (record { scopes = length (scopesOf s); names = namesIn (scopesOf s) }))
+countScopes s = inLimit (length s) (gives (record { scopes = length (scopesOf s); names = namesIn (scopesOf s); exact = every exact (scopeNumbers s) }))
 
 -- 1, then 4 where fewer scopes or names are lent than are counted
 abbrev pub scopesAnswer : List ℕ → ScopeCounts → List ℕ × List ℕ → Answer (Unit {0})

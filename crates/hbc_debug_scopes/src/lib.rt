@@ -3,10 +3,12 @@ ghost use mathlib.Core.Path.{_≡_};
 ghost use Prim.Native.Nat.{_+_, _^_, _<_};
 ghost use lib.Seq.{sets};
 ghost use Rattle.hbc_io.specs.Outcome.{valued};
+ghost use Rattle.hbc_io_leb.specs.Numbers.{exact as isExact};
 ghost use Rattle.hbc_io_leb.specs.Signed.{slebAt};
 ghost use Rattle.hbc_rows.specs.Until.{until, flat, Ended};
-ghost use Rattle.hbc_debug_scopes.specs.Scopes.{frontAt, nameCell, saysScopesCounted, countScopes, WriteScopes};
-ghost use Rattle.hbc_debug_scopes.specs.Private.{headOf, saysHead, wordBits, ScopesAre, RowsAre};
+ghost use Rattle.hbc_debug_parts.specs.Along.{along, every};
+ghost use Rattle.hbc_debug_scopes.specs.Scopes.{frontAt, nameCell, frontNumbers, nameNumber, scopeNumbers, saysScopesCounted, countScopes, WriteScopes};
+ghost use Rattle.hbc_debug_scopes.specs.Private.{headOf, saysHead, markOf, wordBits, ScopesAre, RowsAre};
 use hbc_debug_parts::Written;
 use hbc_io::Cursor;
 use hbc_io::Failed;
@@ -40,9 +42,10 @@ pub struct Head {
     pub count: usize,
 }
 
+// With each, whether the numbers that were read are exact.
 pub enum ReadHead {
-    Got(Head, Cursor),
-    Refused(Failed, Cursor),
+    Got(Head, Cursor, bool),
+    Refused(Failed, Cursor, bool),
 }
 
 // How many names there were, and where reading goes on.
@@ -51,10 +54,18 @@ pub struct Names {
     pub next: Cursor,
 }
 
-// How many scopes there are, and how many names in all.
+// The same, and whether they are exact.
+pub struct NamesMarked {
+    pub count: usize,
+    pub next: Cursor,
+    pub exact: bool,
+}
+
+// How many scopes there are, how many names in all, and whether every number that was read is exact.
 pub struct ScopeCounts {
     pub scopes: usize,
     pub names: usize,
+    pub exact: bool,
 }
 
 // The answer of the counting pass.
@@ -76,30 +87,36 @@ fn word_below(bits: u64, most: u32) -> u32
 
 fn read_head(s: &[u8], c: Cursor) -> ReadHead
     ensures { λ r. ⌜ saysHead r ≡ valued headOf (frontAt (now (s .entry)) c) ⌝ }
+    ensures { λ r. ⌜ markOf r ≡ every isExact (frontNumbers (now (s .entry)) c) ⌝ }
 {
     match read_sleb128_bits(s, c) {
-        ReadHeld::Refused(r, left) => ReadHead::Refused(Failed { refusal: r }, left),
+        ReadHeld::Refused(r, left) => ReadHead::Refused(Failed { refusal: r }, left, true),
         ReadHeld::Got(parent, c1) => match read_sleb128_bits(s, c1) {
-            ReadHeld::Refused(r, left) => ReadHead::Refused(Failed { refusal: r }, left),
+            ReadHeld::Refused(r, left) => ReadHead::Refused(
+                Failed { refusal: r },
+                left,
+                parent.exact,
+            ),
             ReadHeld::Got(flags, c2) => match read_sleb128_bits(s, c2) {
-                ReadHeld::Refused(r, left) => ReadHead::Refused(Failed { refusal: r }, left),
+                ReadHeld::Refused(r, left) => ReadHead::Refused(
+                    Failed { refusal: r },
+                    left,
+                    parent.exact & flags.exact,
+                ),
                 ReadHeld::Got(count, c3) => {
+                    let exact = parent.exact & flags.exact & count.exact;
                     if count.bits <= ((s.len() - c3.at) as u64) {
-                        return ReadHead::Got(
-                            Head {
-                                parent: word_below(parent.bits, NONE),
-                                flags: (flags.bits % 0x1_0000_0000) as u32,
-                                count: count.bits as usize,
-                            },
-                            c3,
-                        );
+                        let head = Head {
+                            parent: word_below(parent.bits, NONE),
+                            flags: (flags.bits % 0x1_0000_0000) as u32,
+                            count: count.bits as usize,
+                        };
+                        return ReadHead::Got(head, c3, exact);
                     }
-                    ReadHead::Refused(
-                        Failed {
-                            refusal: refuse(3, 0),
-                        },
-                        c3,
-                    )
+                    let failed = Failed {
+                        refusal: refuse(3, 0),
+                    };
+                    ReadHead::Refused(failed, c3, exact)
                 }
             },
         },
@@ -107,30 +124,35 @@ fn read_head(s: &[u8], c: Cursor) -> ReadHead
 }
 
 // Passes over at most `count` names.
-fn count_names(s: &[u8], c: Cursor, count: usize) -> Names
+fn count_names(s: &[u8], c: Cursor, count: usize) -> NamesMarked
     ensures { λ r. ⌜ Ended (slebAt (now (s .entry))) count c (r .count) (r .next) ⌝ }
+    ensures { λ r. ⌜ r .exact ≡ every isExact (along (slebAt (now (s .entry))) (nameNumber (now (s .entry))) count c) ⌝ }
 {
     let mut here = c;
     let mut left = count;
     let mut n: usize = 0;
+    let mut exact = true;
     while 0 < left {
         match read_sleb128_bits(s, here) {
             ReadHeld::Refused(r, end) => {
-                return Names {
+                return NamesMarked {
                     count: n,
                     next: end,
+                    exact: exact,
                 };
             }
-            ReadHeld::Got(_, next) => {
+            ReadHeld::Got(name, next) => {
                 here = next;
                 n += 1;
+                exact = exact & name.exact;
                 left -= 1;
             }
         }
     }
-    Names {
+    NamesMarked {
         count: n,
         next: here,
+        exact: exact,
     }
 }
 
@@ -177,25 +199,29 @@ fn write_names(
 
 fn count(s: &[u8]) -> ScopeCounts
     ensures { λ r. ⌜ ScopesAre (now (s .entry)) (r .scopes) (r .names) ⌝ }
+    ensures { λ r. ⌜ r .exact ≡ every isExact (scopeNumbers (now (s .entry))) ⌝ }
 {
     let mut here = Cursor { at: 0 };
     let mut left = s.len();
     let mut n: usize = 0;
     let mut first: usize = 0;
+    let mut exact = true;
     while 0 < left {
         match read_head(s, here) {
-            ReadHead::Refused(r, _) => {
+            ReadHead::Refused(r, _, front) => {
                 return ScopeCounts {
                     scopes: n,
                     names: first,
+                    exact: exact & front,
                 };
             }
-            ReadHead::Got(h, c1) => {
+            ReadHead::Got(h, c1, front) => {
                 let k = count_names(s, c1, h.count);
                 let next = k.next;
                 here = next;
                 n += 1;
                 first += k.count;
+                exact = exact & front & k.exact;
                 left -= 1;
             }
         }
@@ -203,6 +229,7 @@ fn count(s: &[u8]) -> ScopeCounts
     ScopeCounts {
         scopes: n,
         names: first,
+        exact: exact,
     }
 }
 
@@ -215,10 +242,10 @@ fn write_rows(s: &[u8], strings: u32, rows: &mut [u32], names: &mut [u32])
     let mut first: usize = 0;
     while 0 < left {
         match read_head(s, here) {
-            ReadHead::Refused(r, _) => {
+            ReadHead::Refused(r, _, _) => {
                 return;
             }
-            ReadHead::Got(h, c1) => {
+            ReadHead::Got(h, c1, _) => {
                 let k = write_names(s, c1, h.count, strings, names, first);
                 let row = [
                     here.at as u32,
@@ -238,7 +265,7 @@ fn write_rows(s: &[u8], strings: u32, rows: &mut [u32], names: &mut [u32])
     }
 }
 
-// How many scopes a part has, and how many names in all.
+// How many scopes a part has, how many names in all, and whether every number that was read is exact.
 pub fn count_scopes(s: &[u8]) -> ScopesCounted
     ensures { λ r. ⌜ saysScopesCounted r ≡ countScopes (now (s .entry)) ⌝ }
 {
@@ -248,7 +275,7 @@ pub fn count_scopes(s: &[u8]) -> ScopesCounted
     ScopesCounted::Counts(count(s))
 }
 
-// Writes a row for each of the first scopes, as many as are counted, and their names, each below `strings` or none.
+// Writes a row for each of the first scopes, as many as are counted, and their names, each below `strings` or none. The counts' mark is not looked at.
 pub fn write_scopes(
     s: &[u8],
     strings: u32,

@@ -4,23 +4,29 @@ ghost use Prim.Native.Nat.{_+_, _≤_};
 ghost use lib.ListN.{length};
 ghost use lib.Seq.{sets};
 ghost use Rattle.hbc_io.specs.Outcome.{limit};
+ghost use Rattle.hbc_io_leb.specs.Numbers.{exact};
+ghost use Rattle.hbc_debug_parts.specs.Along.{every};
 ghost use Rattle.hbc_debug_strings.specs.Strings.{stringsOf, partToFile, stringWords, saysStringsCounted, countStrings, WriteStrings};
+ghost use Rattle.hbc_debug_strings.specs.Strings.{prefixNumber, stringNumbers};
 use hbc_debug_parts::InFile;
 use hbc_debug_parts::Written;
 use hbc_io::Cursor;
 use hbc_io::LIMIT;
-use hbc_io::ReadSpan;
 use hbc_io::Refusal;
 use hbc_io::refuse;
+use hbc_io_leb::ReadUleb;
+use hbc_io_leb::read_uleb128;
+use hbc_io_strings::ReadPrefixed;
 use hbc_io_strings::read_length_prefixed_string;
 use hbc_rows::put_words;
 
 // The words of a string's row: start in the file, byte length.
 pub const STRING_WORDS: usize = 2;
 
-// What the counting pass found.
+// What the counting pass found: how many, and whether every number that it read was exact.
 pub struct StringCount {
     pub strings: usize,
+    pub exact: bool,
 }
 
 // The answer of the counting pass.
@@ -29,25 +35,44 @@ pub enum StringsCounted {
     Refused(Refusal),
 }
 
+// Whether the length of a string that failed is exact, if it was read: once for a part, so that the loop stays short.
+fn length_exact(s: &[u8], c: Cursor) -> bool
+    ensures { λ r. ⌜ r ≡ every exact (prefixNumber (now (s .entry)) c) ⌝ }
+{
+    match read_uleb128(s, c) {
+        ReadUleb::Got(n, _) => n.exact,
+        ReadUleb::Refused(r, _) => true,
+    }
+}
+
 fn count(part: &[u8]) -> StringCount
     ensures { λ r. ⌜ r .strings ≡ length (stringsOf (now (part .entry))) ⌝ }
+    ensures { λ r. ⌜ r .exact ≡ every exact (stringNumbers (now (part .entry))) ⌝ }
 {
     let mut here = Cursor { at: 0 };
     let mut left = part.len();
     let mut n: usize = 0;
+    let mut kept = true;
     while 0 < left {
         match read_length_prefixed_string(part, here) {
-            ReadSpan::Refused(r, _) => {
-                return StringCount { strings: n };
+            ReadPrefixed::Refused(r, _) => {
+                return StringCount {
+                    strings: n,
+                    exact: kept & length_exact(part, here),
+                };
             }
-            ReadSpan::Got(_, next) => {
+            ReadPrefixed::Got(p, next) => {
+                kept = kept & p.exact;
                 here = next;
                 n += 1;
                 left -= 1;
             }
         }
     }
-    StringCount { strings: n }
+    StringCount {
+        strings: n,
+        exact: kept,
+    }
 }
 
 // A place counted from the part's first byte, in the file.
@@ -67,12 +92,12 @@ fn write_rows(part: &[u8], base: InFile, rows: &mut [u32])
     let mut at: usize = 0;
     while 0 < left {
         match read_length_prefixed_string(part, here) {
-            ReadSpan::Refused(r, _) => {
+            ReadPrefixed::Refused(r, _) => {
                 return;
             }
-            ReadSpan::Got(p, next) => {
-                let start = part_to_file(base, p.start);
-                let row = [start.0 as u32, p.len as u32];
+            ReadPrefixed::Got(p, next) => {
+                let start = part_to_file(base, p.span.start);
+                let row = [start.0 as u32, p.span.len as u32];
                 put_words(rows, at, &row);
                 here = next;
                 at += STRING_WORDS;
@@ -82,7 +107,7 @@ fn write_rows(part: &[u8], base: InFile, rows: &mut [u32])
     }
 }
 
-// How many strings a part has.
+// How many strings a part has, and whether every number that was read was exact.
 pub fn count_strings(part: &[u8]) -> StringsCounted
     ensures { λ r. ⌜ saysStringsCounted r ≡ countStrings (now (part .entry)) ⌝ }
 {

@@ -1,19 +1,19 @@
 -- Laws of the groups of seven bits, and of the bytes that go on.
-use mathlib.Core.Path.{_≡_, sym, ap, _∙_}
+use mathlib.Core.Path.{_≡_, refl, sym, ap, _∙_}
 use mathlib.Core.List.{List, [], _∷_}
 use mathlib.Core.Bool.{Bool, true, false, cond}
 use lib.Dec.{ltb, leb}
-use Prim.Native.Nat.{ℕ, zero, suc, _+_, _*_, _%_, _^_, _≤_, _<_}
+use Prim.Native.Nat.{ℕ, zero, suc, _+_, _-_, _*_, _%_, _^_, _≤_, _<_}
 use native.Mathlib.Omega.{arith}
 use native.Mathlib.Nat.{mul-suc, mul-left-comm, mod-eq-of-lt}
 use native.Mathlib.Numerals.{add-one}
-use borrow.Author.Tests.{lt-ltb, le-ltb, le-leb, lt-leb, ltb-false, leb-false}
+use borrow.Author.Tests.{lt-ltb, le-ltb, le-leb, lt-leb, ltb-true, ltb-false, leb-false}
 use lib.ListN.{length, getD, take, drop, drop-of-length-le, length-drop}
-use lib.Seq.{drop-cons, getD-drop, length-take-le, take-length}
+use lib.Seq.{drop-cons, getD-take, getD-drop, length-take-le, take-length}
 use lib.Pow.{pow-add, pow-pos, pow-mono}
 use lib.Bits.{bitOr}
 use Rattle.hbc_io_leb.specs.Leb.{going, groups, lebBytes}
-use Rattle.hbc_io_leb.specs.Private.{groupsOf}
+use Rattle.hbc_io_leb.specs.Private.{groupsOf, lastOf}
 use Rattle.hbc_io.specs.Outcome.{got, refused, valued, cursorAt, refusal, limit}
 use Rattle.hbc_io.specs.declared.Cursor.{Cursor}
 use Rattle.hbc_io.proofs.Reading.{past-test}
@@ -52,6 +52,15 @@ going-off s at h g = rw (drop-cons s at 0 h, lt-ltb (getD s at 0) 128 g)
 pub going-end : (s : List ℕ) (at : ℕ) → length s ≤ at → going (drop at s) ≡ 0
 going-end s at h = rw (drop-of-length-le s h)
 
+-- the byte after them does not go on
+pub going-stops : (l : List ℕ) → going l < length l → getD l (going l) 0 < 128
+going-stops [] h = absurd (omega arith)
+going-stops (b ∷ l) h = by (ltb b 128) refl (going-stops l)
+  where
+    by : (t : Bool) → ltb b 128 ≡ t → (going l < length l → getD l (going l) 0 < 128) → getD (b ∷ l) (going (b ∷ l)) 0 < 128
+    by true e f = rw e (ltb-true b 128 e)
+    by false e f = rw e (f (omega (arith, rw e at h)))
+
 -- a turn of the loop that reads them: a byte that goes on is counted, and its group comes in above
 pub turn-going : (s : List ℕ) (at k : ℕ) → at + k < length s → 128 ≤ getD s (at + k) 0 → going (drop at s) ≡ k + going (drop (at + k) s)
     → going (drop at s) ≡ (k + 1) + going (drop (at + (k + 1)) s)
@@ -69,8 +78,24 @@ turn-groups s at k v g h l e f =
     let r : k < length (drop at s) = rw (length-drop at s) (omega arith) in
     rw (q, f, or-parts 64 (7 * k) (getD s (at + k) 0 % 128) x (omega arith) b, groups-more (drop at s) k r, getD-drop at s k 0)
 
+-- the first byte, where another follows it
+pub first-going : (s : List ℕ) (at : ℕ) → at < length s → 128 ≤ getD s at 0 → going (drop at s) ≡ 1 + going (drop (at + 1) s)
+first-going s at h g = rw (add-one at) (omega (arith, going-on s at h g))
+
+pub first-group : (s : List ℕ) (at : ℕ) {v : ℕ} → at < length s → v ≡ getD s at 0 % 128 → v ≡ groups (take 1 (drop at s)) % 2 ^ 64
+first-group s at {v} h e =
+    let g : groups (take 1 (drop at s)) ≡ v = rw (drop-cons s at 0 h) (omega arith) in
+    let m : v % 2 ^ 64 ≡ v = mod-eq-of-lt (omega arith) in
+    sym (ap (λ (n : ℕ). n % 2 ^ 64) g ∙ m)
+
 pub part-long : (s : List ℕ) (at k : ℕ) → at + k < length s → k + 1 ≡ length (take (suc k) (drop at s))
 part-long s at k h = rw (length-take-le (suc k) (drop at s) (rw (length-drop at s) (omega arith))) (omega arith)
+
+-- their last byte is the last one looked at
+pub part-last : (s : List ℕ) (at k : ℕ) → at + k < length s → getD s (at + k) 0 ≡ lastOf (take (suc k) (drop at s))
+part-last s at k h =
+    let n : length (take (suc k) (drop at s)) - 1 ≡ k = omega (arith, part-long s at k h) in
+    rw n (sym (getD-take (suc k) (drop at s) k 0 (omega arith) ∙ getD-drop at s k 0))
 
 -- ---- how a number ends
 module _ (s : List ℕ) (c : Cursor) (short : length s ≤ limit) (inside : c .at ≤ length s) where
@@ -89,13 +114,14 @@ module _ (s : List ℕ) (c : Cursor) (short : length s ≤ limit) (inside : c .a
 
 -- a number of one byte
 pub leb-one : (s : List ℕ) (c : Cursor) → length s ≤ limit → c .at < length s → (b : ℕ) → b < 128 → b ≡ getD s (c .at) 0
-    → valued groupsOf (lebBytes s c) ≡ got (record { bits = b; count = 1 }) (cursorAt (c .at + 1))
+    → valued groupsOf (lebBytes s c) ≡ got (record { bits = b; count = 1; last = b }) (cursorAt (c .at + 1))
 leb-one s c short inside b l e =
     let w = leb-whole s c short (omega arith) 0 (going-off s (c .at) inside (omega arith)) (omega arith) (omega arith) in
     let n : length (take 1 (drop (c .at) s)) ≡ 1 = sym (part-long s (c .at) 0 (omega arith)) in
     let g : groups (take 1 (drop (c .at) s)) ≡ b = rw (drop-cons s (c .at) 0 inside) (omega arith) in
     let m : b % 2 ^ 64 ≡ b = mod-eq-of-lt (omega arith) in
-    rw w (simp (n, g, m))
+    let t : getD (take 1 (drop (c .at) s)) 0 0 ≡ b = rw (drop-cons s (c .at) 0 inside) (sym e) in
+    rw w (simp (n, g, m, t))
 
 pub record Number (s : List ℕ) (c : Cursor) (bs : List ℕ) (n : Cursor) : Type 0 where
   pub short : length s ≤ limit
@@ -103,6 +129,7 @@ pub record Number (s : List ℕ) (c : Cursor) (bs : List ℕ) (n : Cursor) : Typ
   pub few : length bs ≤ 10
   pub room : c .at + length bs ≤ length s
   pub bytes : bs ≡ take (length bs) (drop (c .at) s)
+  pub ends : lastOf bs < 128
   pub next : n ≡ cursorAt (c .at + length bs)
 
 -- what was got are the bytes from the cursor on, one to ten of them
@@ -120,12 +147,15 @@ leb-got s c bs n e =
     let b : take (suc k) (drop (c .at) s) ≡ bs = cc in
     let l : length bs ≡ suc k = ap length (sym b) ∙ sym (part-long s (c .at) k h) ∙ add-one k in
     let m : cursorAt (c .at + suc k) ≡ n = cc in
+    let z : lastOf bs ≡ getD (drop (c .at) s) k 0 = ap lastOf (sym b) ∙ sym (part-last s (c .at) k h) ∙ sym (getD-drop (c .at) s k 0) in
+    let i : k < length (drop (c .at) s) = rw (length-drop (c .at) s) (omega arith) in
     record {
       short = ltb-false limit (length s) (p .0);
       some = omega arith;
       few = omega arith;
       room = omega arith;
       bytes = rw l (sym b);
+      ends = omega (arith, going-stops (drop (c .at) s) i);
       next = rw l (sym m);
     }
 

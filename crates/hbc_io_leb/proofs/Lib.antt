@@ -1,5 +1,6 @@
 pub mod Lebs
 pub mod Slebs
+pub mod Exacts
 pub mod Numbers
 pub mod Alone
 pub mod Bits

@@ -2,10 +2,10 @@
 -- 64 bits of the value.
 use Prim.Native.Nat.{ℕ, suc, _+_, _-_, _*_, _%_, _^_}
 use mathlib.Core.List.{List, [], _∷_}
-use mathlib.Core.Bool.{cond}
-use lib.ListN.{length, take, drop}
+use mathlib.Core.Bool.{Bool, true, cond}
+use lib.ListN.{length, getD, take, drop}
 use lib.IntN.{ℤ}
-use lib.Dec.{ltb, leb}
+use lib.Dec.{ltb, leb, eqb}
 use Rattle.hbc_io.specs.Outcome.{Outcome, got, refused, cursorAt, refusal, twos, lowBits}
 use Rattle.hbc_io.specs.Plain.{started}
 use Rattle.hbc_io.specs.declared.Cursor.{Cursor}
@@ -51,3 +51,17 @@ low64 z = twos 64 (lowBits 64 z)
 
 abbrev pub signedOf : List ℕ → ℤ
 signedOf bs = low64 (dwarfSigned bs)
+
+-- ---- whether they are exact: a tenth byte can lose bits, no other does
+
+-- the tenth byte, 0 where there are fewer
+abbrev pub tenth : List ℕ → ℕ
+tenth bs = getD bs 9 0
+
+-- an unsigned number is not exact when its tenth byte is above 1
+abbrev pub exactUnsigned : List ℕ → Bool
+exactUnsigned bs = leb (tenth bs) 1
+
+-- a signed one when it is neither 00 nor 7F
+abbrev pub exactSigned : List ℕ → Bool
+exactSigned bs = cond (eqb (tenth bs) 0) true (eqb (tenth bs) 127)

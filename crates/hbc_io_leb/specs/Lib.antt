@@ -1,4 +1,5 @@
 pub mod Leb
 pub mod Answers
+pub mod Numbers
 pub mod Signed
 pub mod Private

@@ -40,7 +40,7 @@ unfoldable pub bitsOf : ℤ → ℕ
 bitsOf z = lowBits 64 z
 
 abbrev pub heldOf : Sleb → Held
-heldOf v = record { bits = bitsOf (v .value) }
+heldOf v = record { bits = bitsOf (v .value); exact = v .exact }
 
 abbrev pub saysHeld : ReadHeld → Outcome Held
 saysHeld (held.Got v n) = got v n

@@ -2,9 +2,9 @@
 ghost use mathlib.Core.Path.{_≡_};
 ghost use Prim.Native.Nat.{_*_, _^_, _≤_, _<_, min};
 ghost use lib.ListN.{length, getD};
-ghost use Rattle.hbc_io.specs.Outcome.{valued, twos};
+ghost use Rattle.hbc_io.specs.Outcome.{valued, twos, limit};
 ghost use Rattle.hbc_io_leb.specs.Leb.{lebBytes};
-ghost use Rattle.hbc_io_leb.specs.Private.{groupsOf, saysGroups, signedBits};
+ghost use Rattle.hbc_io_leb.specs.Private.{First, groupsOf, saysGroups, signedBits, exactU, exactS};
 ghost use Rattle.hbc_io_leb.specs.Answers.{ulebOf, slebOf, saysUleb, saysSleb};
 ghost use Rattle.hbc_io_leb.specs.Signed.{slebAt, bitsOf, heldOf, saysHeld};
 use hbc_io::Cursor;
@@ -12,14 +12,16 @@ use hbc_io::LIMIT;
 use hbc_io::Refusal;
 use hbc_io::refuse;
 
-// What an unsigned number's bytes say.
+// What an unsigned number's bytes say, and whether no bit of it was lost.
 pub struct Uleb {
     pub value: u64,
+    pub exact: bool,
 }
 
-// What a signed number's bytes say.
+// What a signed number's bytes say, and whether no bit of it was lost.
 pub struct Sleb {
     pub value: i64,
+    pub exact: bool,
 }
 
 pub enum ReadUleb {
@@ -35,6 +37,7 @@ pub enum ReadSleb {
 // The same with the number as the 64 bits that hold it, so that every test on one is a test of unsigned numbers.
 pub struct Held {
     pub bits: u64,
+    pub exact: bool,
 }
 
 pub enum ReadHeld {
@@ -42,10 +45,11 @@ pub enum ReadHeld {
     Refused(Refusal, Cursor),
 }
 
-// The low 64 bits of the groups, and how many there were.
+// The low 64 bits of the groups, how many there were, and the last of their bytes.
 pub struct Groups {
     pub bits: u64,
     pub count: usize,
+    pub last: u8,
 }
 
 pub enum ReadGroups {
@@ -65,15 +69,20 @@ fn at_most_ten(n: usize) -> usize
     if n < 10 { n } else { 10 }
 }
 
-// The byte at a place, 128 past the end: below 128 it is a whole number.
+// The byte at a place, 128 where there is none to be read: below 128 it is a whole number.
 fn first_at(s: &[u8], at: usize) -> u8
-    ensures { λ r. ⌜ (r < 128 → (at < length (now (s .entry))) × (r ≡ getD (now (s .entry)) at 0)) ⌝ }
+    ensures { λ r. ⌜ First (now (s .entry)) at r ⌝ }
 {
+    if LIMIT < s.len() {
+        return 128;
+    }
     if at < s.len() { s[at] } else { 128 }
 }
 
-// One byte is most numbers, and goes first. One bound for the loop, so that it stays small enough to be inlined in both reads.
+// More bytes than one: one is most numbers, and each read has it before this, with no mark to be made. One bound for the loop, so that it stays small
+// enough to be inlined in both reads.
 fn read_groups(s: &[u8], c: Cursor) -> ReadGroups
+    requires { ⌜ (length (now s) ≤ limit → c .at < length (now s) → 128 ≤ getD (now s) (c .at) 0) ⌝ }
     ensures { λ r. ⌜ saysGroups r ≡ valued groupsOf (lebBytes (now (s .entry)) c) ⌝ }
 {
     let at = c.at;
@@ -83,19 +92,12 @@ fn read_groups(s: &[u8], c: Cursor) -> ReadGroups
     if s.len() < at {
         return ReadGroups::Refused(refuse(2, 0), c);
     }
-    let first = first_at(s, at);
-    if first < 128 {
-        return ReadGroups::Got(
-            Groups {
-                bits: wide(first),
-                count: 1,
-            },
-            Cursor { at: at + 1 },
-        );
-    }
     let most = at_most_ten(s.len() - at);
-    let mut v: u64 = 0;
-    let mut k: usize = 0;
+    if most < 1 {
+        return ReadGroups::Refused(refuse(3, 0), c);
+    }
+    let mut v: u64 = wide(s[at] % 128);
+    let mut k: usize = 1;
     while k < most {
         let b = s[at + k];
         v |= wide(b % 128) << (7 * k as u64);
@@ -104,6 +106,7 @@ fn read_groups(s: &[u8], c: Cursor) -> ReadGroups
                 Groups {
                     bits: v,
                     count: k + 1,
+                    last: b,
                 },
                 Cursor { at: at + k + 1 },
             );
@@ -116,11 +119,48 @@ fn read_groups(s: &[u8], c: Cursor) -> ReadGroups
     ReadGroups::Refused(refuse(5, 0), Cursor { at: at + 10 })
 }
 
+// Bits are lost from a tenth byte alone: of an unsigned number, all but one.
+fn exact_unsigned(count: usize, last: u8) -> bool
+    ensures { λ r. ⌜ r ≡ exactU count last ⌝ }
+{
+    if count < 10 { true } else { last <= 1 }
+}
+
+// Of a signed one they may be lost where they say again what its sign says.
+fn exact_signed(count: usize, last: u8) -> bool
+    ensures { λ r. ⌜ r ≡ exactS count last ⌝ }
+{
+    if count < 10 {
+        return true;
+    }
+    if last == 0 {
+        return true;
+    }
+    last == 0x7F
+}
+
 pub fn read_uleb128(s: &[u8], c: Cursor) -> ReadUleb
     ensures { λ r. ⌜ saysUleb r ≡ valued ulebOf (lebBytes (now (s .entry)) c) ⌝ }
 {
+    let at = c.at;
+    let first = first_at(s, at);
+    if first < 128 {
+        return ReadUleb::Got(
+            Uleb {
+                value: wide(first),
+                exact: true,
+            },
+            Cursor { at: at + 1 },
+        );
+    }
     match read_groups(s, c) {
-        ReadGroups::Got(g, next) => ReadUleb::Got(Uleb { value: g.bits }, next),
+        ReadGroups::Got(g, next) => ReadUleb::Got(
+            Uleb {
+                value: g.bits,
+                exact: exact_unsigned(g.count, g.last),
+            },
+            next,
+        ),
         ReadGroups::Refused(r, left) => ReadUleb::Refused(r, left),
     }
 }
@@ -153,6 +193,17 @@ fn extended(bits: u64, count: usize) -> i64
 pub fn read_sleb128(s: &[u8], c: Cursor) -> ReadSleb
     ensures { λ r. ⌜ saysSleb r ≡ valued slebOf (lebBytes (now (s .entry)) c) ⌝ }
 {
+    let at = c.at;
+    let first = first_at(s, at);
+    if first < 128 {
+        return ReadSleb::Got(
+            Sleb {
+                value: extended(wide(first), 1),
+                exact: true,
+            },
+            Cursor { at: at + 1 },
+        );
+    }
     match read_groups(s, c) {
         ReadGroups::Got(g, next) => {
             let bits = g.bits;
@@ -160,6 +211,7 @@ pub fn read_sleb128(s: &[u8], c: Cursor) -> ReadSleb
             ReadSleb::Got(
                 Sleb {
                     value: extended(bits, count),
+                    exact: exact_signed(count, g.last),
                 },
                 next,
             )
@@ -186,6 +238,7 @@ pub fn read_sleb128_bits(s: &[u8], c: Cursor) -> ReadHeld
         ReadSleb::Got(v, next) => ReadHeld::Got(
             Held {
                 bits: bits_of(v.value),
+                exact: v.exact,
             },
             next,
         ),

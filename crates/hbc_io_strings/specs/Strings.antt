@@ -10,6 +10,10 @@ use Rattle.hbc_io.specs.declared.Cursor.{Cursor}
 use Rattle.hbc_io.specs.declared.Span.{Span}
 use Rattle.hbc_io_leb.specs.Leb.{lebBytes}
 use Rattle.hbc_io_leb.specs.Answers.{ulebOf}
+use Rattle.hbc_io_leb.specs.declared.Uleb.{Uleb}
+use Rattle.hbc_io_strings.specs.declared.Prefixed.{Prefixed}
+use Rattle.hbc_io_strings.specs.declared.ReadPrefixed.{ReadPrefixed}
+use Rattle.hbc_io_strings.specs.declared.ReadPrefixed.the-variants as string
 
 -- how many bytes stand before the first zero
 abbrev pub before0 : List ℕ → ℕ
@@ -26,3 +30,15 @@ zeroEnded s c =
 -- a ULEB128 number, and as many bytes; where they are not there the cursor stays after the number
 unfoldable pub prefixed : List ℕ → Cursor → Outcome Span
 prefixed s c = andThen (valued ulebOf (lebBytes s c)) (λ u n. bytesAt (u .value) s n)
+
+-- a string, and whether its length is exact
+abbrev pub stringOf : Uleb → Span → Prefixed
+stringOf u p = record { span = p; exact = u .exact }
+
+-- the same string with that mark
+unfoldable pub markedAt : List ℕ → Cursor → Outcome Prefixed
+markedAt s c = andThen (valued ulebOf (lebBytes s c)) (λ u n. valued (stringOf u) (bytesAt (u .value) s n))
+
+abbrev pub saysPrefixed : ReadPrefixed → Outcome Prefixed
+saysPrefixed (string.Got v n) = got v n
+saysPrefixed (string.Refused r n) = refused r n

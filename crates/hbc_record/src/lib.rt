@@ -10,9 +10,9 @@ ghost use Rattle.hbc_record.specs.Records.{spanAt, pastAt, placeOf, span
 ghost use Rattle.hbc_record.specs.Records.{fill, fillLong, isListed, judgedOn, areListed, answered, leftAs, sameBytes};
 ghost use Rattle.hbc_record.specs.Records.{sameFloat, IsFront, wordsOf, IsGiven, tally, countedOn};
 use hbc_io::Cursor;
-use hbc_io::ReadSpan;
 use hbc_io::Span;
 use hbc_io_leb::ReadUleb;
+use hbc_io_strings::ReadPrefixed;
 use libc::STDOUT_FILENO;
 
 // What a word of a lent table holds before a call.
@@ -59,8 +59,8 @@ fn span_at(s: &[u8], at: usize) -> Span
     ensures { λ r. ⌜ r ≡ spanAt (now (s .entry)) at ⌝ }
 {
     match hbc_io_strings::read_length_prefixed_string(s, Cursor { at }) {
-        ReadSpan::Got(p, _) => p,
-        ReadSpan::Refused(_, _) => Span { start: 0, len: 0 },
+        ReadPrefixed::Got(p, _) => p.span,
+        ReadPrefixed::Refused(_, _) => Span { start: 0, len: 0 },
     }
 }
 
@@ -76,8 +76,8 @@ pub fn past(s: &[u8], at: usize) -> usize
     ensures { λ r. ⌜ r ≡ pastAt (now (s .entry)) at ⌝ }
 {
     match hbc_io_strings::read_length_prefixed_string(s, Cursor { at }) {
-        ReadSpan::Got(_, c) => c.at,
-        ReadSpan::Refused(_, _) => s.len(),
+        ReadPrefixed::Got(_, c) => c.at,
+        ReadPrefixed::Refused(_, _) => s.len(),
     }
 }
 

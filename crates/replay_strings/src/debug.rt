@@ -1,4 +1,4 @@
-// Debug sections. Asked: words lent in four tables; offset. The answer: code, four counts; then the tables.
+// Debug sections. Asked: words lent in four tables; offset. The answer: code, four counts; then the tables, and the mark as one of a word.
 use hbc_record::Asked;
 use hbc_record::FILL;
 use hbc_record::answers;
@@ -11,11 +11,13 @@ fn are_left(
     scopes: &[u32],
     names: &[u32],
     callees: &[u32],
+    mark: &[u32],
 ) -> bool {
     words_are(record, 3, strings)
         & words_are(record, 4, scopes)
         & words_are(record, 5, names)
         & words_are(record, 6, callees)
+        & words_are(record, 7, mark)
 }
 
 pub(crate) fn read_debug(record: &[u8], s: &[u8], n: Asked) -> bool {
@@ -27,6 +29,7 @@ pub(crate) fn read_debug(record: &[u8], s: &[u8], n: Asked) -> bool {
     let mut b: usize = 0;
     let mut c: usize = 0;
     let mut d: usize = 0;
+    let mut exact = FILL;
     let code = hbc_c_debug::read_debug(
         s,
         n.p,
@@ -38,6 +41,8 @@ pub(crate) fn read_debug(record: &[u8], s: &[u8], n: Asked) -> bool {
         &mut b,
         &mut c,
         &mut d,
+        &mut exact,
     );
-    answers(record, code, a, b, c, d) & are_left(record, &strings, &scopes, &names, &callees)
+    let mark = [exact];
+    answers(record, code, a, b, c, d) & are_left(record, &strings, &scopes, &names, &callees, &mark)
 }

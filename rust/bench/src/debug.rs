@@ -110,10 +110,10 @@ impl Lent {
         Lent([2, 5, NAMES, 2].map(|row| vec![0; row * rows]))
     }
 
-    /// The answer of one call on the section at byte 1, and the four counts.
+    /// The answer of one call on the section at byte 1, and the four counts. Its mark is lent, and not looked at.
     pub fn call(&mut self, file: &[u8]) -> (u64, [usize; 4]) {
         let [a, b, c, d] = &mut self.0;
-        let mut counts = [0; 4];
+        let (mut counts, mut exact) = ([0; 4], 0);
         let [strings, scopes, names, callees] = &mut counts;
         let code = unsafe {
             hbc_read_debug(
@@ -132,6 +132,7 @@ impl Lent {
                 scopes,
                 names,
                 callees,
+                &mut exact,
             )
         };
         (code, counts)

@@ -22,6 +22,12 @@ pub fn rows(bench: &Bench) {
         let mixed = filled(size, |bytes| leb128(bytes, &mut random));
         bench.row("ULEB128, 1 to 10 bytes", &mixed, ULEB128);
         bench.row("SLEB128, 1 to 10 bytes", &mixed, SLEB128);
+        let exact = filled(size, |bytes| bytes.extend(ten(&mut random, false)));
+        bench.row("ULEB128, ten bytes each", &exact, ULEB128);
+        bench.row("SLEB128, ten bytes each", &exact, SLEB128);
+        let lost = filled(size, |bytes| bytes.extend(ten(&mut random, true)));
+        bench.row("ULEB128, ten, bits lost", &lost, ULEB128);
+        bench.row("SLEB128, ten, bits lost", &lost, SLEB128);
         let texts = filled(size, |bytes| text(bytes, &mut random));
         bench.row("zero-ended, 0 to 40 letters", &texts, CSTRING);
     }
@@ -48,6 +54,15 @@ fn leb128(bytes: &mut Vec<u8>, random: &mut Random) {
     bytes.push(random.byte() & 0x7F);
 }
 
+/// Ten bytes, the last of them 0, or one with which bits of the number are lost, signed or unsigned.
+fn ten(random: &mut Random, lost: bool) -> [u8; 10] {
+    std::array::from_fn(|i| match i {
+        9 if lost => random.pick(&[2, 0x3F, 0x40, 0x7E]),
+        9 => 0,
+        _ => random.byte() | 0x80,
+    })
+}
+
 fn text(bytes: &mut Vec<u8>, random: &mut Random) {
     let len = random.below(41);
     bytes.extend((0..len).map(|_| b'a' + random.byte() % 26));
@@ -65,14 +80,17 @@ fn all(mut next: impl FnMut() -> Option<u64>) -> Tally {
     tally
 }
 
-/// The sides of a read of one number: our call, the Rust's, and the number's type. The compiler reaches a function of
+/// The sides of a read of one number: our call, the Rust's, the number's type, and a mark where the call tells one, which
+/// the Rust does not. The compiler reaches a function of
 /// another library by its address; `black_box` has it reach the Rust's in the same way.
 macro_rules! number {
-    ($call:ident, $method:ident, $kind:ty) => {{
+    ($call:ident, $method:ident, $kind:ty $(, $mark:ident)?) => {{
         const OURS: Side = |bytes| {
             let (mut at, mut value): (usize, $kind) = (0, 0);
+            $(let mut $mark = 0;)?
             all(|| {
-                let code = unsafe { $call(bytes.as_ptr(), bytes.len(), &mut at, &mut value) };
+                let (s, len) = (bytes.as_ptr(), bytes.len());
+                let code = unsafe { $call(s, len, &mut at, &mut value $(, &mut $mark)?) };
                 (code == 0).then_some(value as u64)
             })
         };
@@ -99,8 +117,8 @@ macro_rules! number {
 
 const U32: Sides = number!(hbc_read_u32, read_u32, u32);
 const U64: Sides = number!(hbc_read_u64, read_u64, u64);
-const ULEB128: Sides = number!(hbc_read_uleb128, read_uleb128, u64);
-const SLEB128: Sides = number!(hbc_read_sleb128, read_sleb128, i64);
+const ULEB128: Sides = number!(hbc_read_uleb128, read_uleb128, u64, exact);
+const SLEB128: Sides = number!(hbc_read_sleb128, read_sleb128, i64, exact);
 
 /// The Rust hands back a text of its own, checked as UTF-8; ours names the part. Of each the length and the first
 /// letter go into the sum.

@@ -6,6 +6,7 @@
 
 #![allow(unsafe_code)]
 
+use crate::io::Marked;
 use crate::refusal::{Place, Refusal, Result};
 use crate::sys;
 
@@ -143,6 +144,21 @@ numbers! {
     read_u64 = hbc_read_u64 -> u64;
     read_i32 = hbc_read_i32 -> i32;
     read_f64 = hbc_read_f64 -> f64;
+}
+
+macro_rules! marked {
+    ($($name:ident = $call:ident -> $kind:ty;)*) => {
+        $(
+            pub(crate) fn $name(s: &[u8], at: &mut usize) -> Result<Marked<$kind>> {
+                let (mut value, mut exact) = (0, 0);
+                let code = unsafe { sys::$call(s.as_ptr(), s.len(), at, &mut value, &mut exact) };
+                Refusal::check(code, Place::Nothing).map(|_| Marked { value, exact: exact != 0 })
+            }
+        )*
+    };
+}
+
+marked! {
     read_uleb128 = hbc_read_uleb128 -> u64;
     read_sleb128 = hbc_read_sleb128 -> i64;
 }
@@ -162,7 +178,21 @@ macro_rules! parts {
 parts! {
     read_bytes = hbc_read_bytes(len);
     read_cstring = hbc_read_cstring();
-    read_length_prefixed_string = hbc_read_length_prefixed_string();
+}
+
+pub(crate) fn read_length_prefixed_string<'a>(
+    s: &'a [u8],
+    at: &mut usize,
+) -> Result<Marked<&'a [u8]>> {
+    let (lent, len) = (s.as_ptr(), s.len());
+    let (mut start, mut size, mut exact) = (0, 0, 0);
+    let code = unsafe {
+        sys::hbc_read_length_prefixed_string(lent, len, at, &mut start, &mut size, &mut exact)
+    };
+    Refusal::check(code, Place::Nothing).map(|_| Marked {
+        value: &s[start..][..size],
+        exact: exact != 0,
+    })
 }
 
 macro_rules! tables {
@@ -420,7 +450,7 @@ pub(crate) fn trailing_sections(
     Refusal::check(code, Place::Nothing).map(|_| rows)
 }
 
-/// How many rows were written in each table.
+/// How many rows were written in each table, and whether all numbers were exact.
 pub(crate) fn read_debug(
     file: &[u8],
     offset: u32,
@@ -428,10 +458,10 @@ pub(crate) fn read_debug(
     scopes: &mut [ScopeRow],
     names: &mut [NameRow],
     callees: &mut [CalleeRow],
-) -> Result<[usize; 4]> {
+) -> Result<([usize; 4], bool)> {
     let (strings, scopes) = (words_of_mut(strings), words_of_mut(scopes));
     let (names, callees) = (words_of_mut(names), words_of_mut(callees));
-    let mut counts = [0; 4];
+    let (mut counts, mut exact) = ([0; 4], 0);
     let [string_count, scope_count, name_count, callee_count] = &mut counts;
     let code = unsafe {
         sys::hbc_read_debug(
@@ -450,7 +480,8 @@ pub(crate) fn read_debug(
             scope_count,
             name_count,
             callee_count,
+            &mut exact,
         )
     };
-    Refusal::check(code, Place::Nothing).map(|_| counts)
+    Refusal::check(code, Place::Nothing).map(|_| (counts, exact != 0))
 }

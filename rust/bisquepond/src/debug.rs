@@ -19,6 +19,8 @@
 //! let names: Vec<Option<u32>> = debug.rows().names_of(0).iter().map(|name| name.string()).collect();
 //! assert_eq!(names, [Some(0), None]);
 //! assert_eq!((debug.callees[0].address(), debug.callees[0].string()), (5, 0));
+//! // No number has more than 64 bits.
+//! assert!(debug.exact);
 //! # Ok::<(), bisquepond::Refusal>(())
 //! ```
 
@@ -199,6 +201,33 @@ pub struct DebugRows<'t> {
     pub names: &'t [NameRow],
     /// The callees, one an address, rising.
     pub callees: &'t [CalleeRow],
+    /// Whether every number of the debug data that was read is exact. If not, at least one of them does not fit 64
+    /// bits, and what is shown of it is its low 64 bits: a parent, flags, a name or an address may then be another than
+    /// the file says, a text shorter, or rows may be missing behind a count or a length that was taken for another. No
+    /// compiler writes such numbers, so that the file is damaged or was made to mislead. A number counts wherever it
+    /// was read: also the length of a text that is cut, the numbers of a scope that was given up, a count that is
+    /// refused because it is negative or above the bytes left, and a name that no string has. A read that failed is no
+    /// number. Where no number was read, as where there is no debug information, it is true.
+    ///
+    /// ```
+    /// use bisquepond::debug::{self, LentTables, ScopeRow};
+    ///
+    /// # let mut file = vec![0];
+    /// # for word in [0u32, 0, 0, 0, 12, 12, 12] { file.extend(word.to_le_bytes()); }
+    /// // A scope without names, whose parent has ten bytes: 2^64, of which 0 is left.
+    /// file.extend(b"\x80\x80\x80\x80\x80\x80\x80\x80\x80\x02\x00\x00");
+    /// let mut scopes = [ScopeRow::default(); 1];
+    /// let mut lent = LentTables {
+    ///     strings: &mut [],
+    ///     scopes: &mut scopes,
+    ///     names: &mut [],
+    ///     callees: &mut [],
+    /// };
+    /// let rows = debug::read_debug_into(&file, 1, &mut lent)?;
+    /// assert_eq!((rows.scopes[0].parent(), rows.exact), (Some(0), false));
+    /// # Ok::<(), bisquepond::Refusal>(())
+    /// ```
+    pub exact: bool,
 }
 
 impl<'t> DebugRows<'t> {
@@ -233,6 +262,20 @@ pub struct DebugInfo {
     pub names: Table<NameRow>,
     /// The callees, one an address, rising.
     pub callees: Table<CalleeRow>,
+    /// Whether every number of the debug data that was read is exact; [`DebugRows::exact`] says what that means.
+    ///
+    /// ```
+    /// # let mut file = vec![0];
+    /// # for word in [0u32, 0, 0, 0, 0, 0, 14] { file.extend(word.to_le_bytes()); }
+    /// // A text of two bytes, and one whose length is cut off at 64 bits, and then says 9.
+    /// file.extend(b"\x02hi\x89\x80\x80\x80\x80\x80\x80\x80\x80\x02?");
+    /// let debug = bisquepond::debug::read_debug(&file, 1)?;
+    /// assert_eq!((debug.strings.len(), debug.exact), (1, false));
+    /// // No debug information.
+    /// assert!(bisquepond::debug::read_debug(&file, 0)?.exact);
+    /// # Ok::<(), bisquepond::Refusal>(())
+    /// ```
+    pub exact: bool,
 }
 
 impl DebugInfo {
@@ -252,12 +295,14 @@ impl DebugInfo {
             scopes: &self.scopes,
             names: &self.names,
             callees: &self.callees,
+            exact: self.exact,
         }
     }
 }
 
-/// Reads the debug section at byte `offset` of the file into four tables that are lent, and answers their first rows;
-/// other rows stay. At offset 0, 2^32 - 1, or at or past the end there is no debug information: no rows.
+/// Reads the debug section at byte `offset` of the file into four tables that are lent, and answers their first rows, and
+/// whether every number was [exact](DebugRows::exact); other rows stay. At offset 0, 2^32 - 1, or at or past the end there
+/// is no debug information: no rows.
 ///
 /// # Errors
 ///
@@ -297,12 +342,13 @@ pub fn read_debug_into<'t>(
         names,
         callees,
     } = lent;
-    let counts = boundary::read_debug(file, offset, strings, scopes, names, callees)?;
+    let (counts, exact) = boundary::read_debug(file, offset, strings, scopes, names, callees)?;
     Ok(DebugRows {
         strings: &strings[..counts[0]],
         scopes: &scopes[..counts[1]],
         names: &names[..counts[2]],
         callees: &callees[..counts[3]],
+        exact,
     })
 }
 
@@ -333,20 +379,23 @@ pub fn read_debug(file: &[u8], offset: u32) -> Result<DebugInfo> {
             scopes: Table::zeros(room),
             names: Table::zeros(room),
             callees: Table::zeros(room),
+            exact: true,
         };
         let DebugInfo {
             strings,
             scopes,
             names,
             callees,
+            exact,
         } = &mut debug;
         let (a, b, c, d) = (strings.lent(), scopes.lent(), names.lent(), callees.lent());
         match boundary::read_debug(file, offset, a, b, c, d) {
-            Ok([texts, scoped, named, called]) => {
+            Ok(([texts, scoped, named, called], all_exact)) => {
                 strings.keep(texts);
                 scopes.keep(scoped);
                 names.keep(named);
                 callees.keep(called);
+                *exact = all_exact;
                 return Ok(debug);
             }
             Err(refusal) if refusal.reason() == Reason::TooFewRows && room < most => {

@@ -1,9 +1,50 @@
 //! A position in the bytes, and what is read there. Numbers are little-endian.
 //!
 //! A refused read leaves the position where it was, but for LEB128 and strings: see each.
+//!
+//! A LEB128 number of ten bytes can have more than the 64 bits that are read of it. The calls that end in `_marked` say
+//! whether it has; the others read the same, and do not say.
 
 use crate::Result;
 use crate::boundary;
+
+/// What was read, and whether it is exact: whether all bits of its LEB128 number were kept.
+///
+/// ```
+/// use bisquepond::io::ByteReader;
+///
+/// // 2^64 in ten bytes: its low 64 bits are 0, and that is what is read.
+/// let number = [0x80, 0x80, 0x80, 0x80, 0x80, 0x80, 0x80, 0x80, 0x80, 0x02];
+/// let read = ByteReader::new(&number).read_uleb128_marked()?;
+/// assert_eq!((read.value, read.exact), (0, false));
+/// # Ok::<(), bisquepond::Refusal>(())
+/// ```
+#[derive(Clone, Copy, PartialEq, Eq, Hash, Debug)]
+pub struct Marked<T> {
+    /// The low 64 bits of the number; or the bytes of a string, as many as the low 64 bits of its length say.
+    pub value: T,
+    /// Whether no bit of the number was lost, so that those 64 are the number itself: not so if its tenth byte is above
+    /// 1, unsigned, or neither 00 nor 7F, signed (a 7F only says again that the number is negative).
+    pub exact: bool,
+}
+
+impl<T> Marked<T> {
+    /// The value, if it is exact.
+    ///
+    /// ```
+    /// use bisquepond::io::ByteReader;
+    ///
+    /// let mut number = [0x80; 10];
+    /// number[9] = 0x01;
+    /// assert_eq!(ByteReader::new(&number).read_uleb128_marked()?.if_exact(), Some(1 << 63));
+    /// number[9] = 0x03;
+    /// assert_eq!(ByteReader::new(&number).read_uleb128_marked()?.if_exact(), None);
+    /// # Ok::<(), bisquepond::Refusal>(())
+    /// ```
+    pub fn if_exact(self) -> Option<T> {
+        self.exact.then_some(self.value)
+    }
+}
 
 /// Bytes with a position. Its calls have the names that hermes-decomp's reader has.
 ///
@@ -151,19 +192,116 @@ impl<'a> ByteReader<'a> {
     /// # Ok::<(), bisquepond::Refusal>(())
     /// ```
     pub fn read_length_prefixed_string(&mut self) -> Result<&'a [u8]> {
+        self.read_length_prefixed_string_marked()
+            .map(|read| read.value)
+    }
+
+    /// The same, and whether the length is exact: if not, the bytes are as many as its low 64 bits say.
+    ///
+    /// # Errors
+    ///
+    /// Those of [`read_length_prefixed_string`](Self::read_length_prefixed_string).
+    ///
+    /// ```
+    /// use bisquepond::io::ByteReader;
+    ///
+    /// let read = ByteReader::new(b"\x02hi").read_length_prefixed_string_marked()?;
+    /// assert_eq!((read.value, read.exact), (&b"hi"[..], true));
+    /// // A length of 2^64 + 2, of which 2 is left.
+    /// let long = b"\x82\x80\x80\x80\x80\x80\x80\x80\x80\x02hi";
+    /// let read = ByteReader::new(long).read_length_prefixed_string_marked()?;
+    /// assert_eq!((read.value, read.exact), (&b"hi"[..], false));
+    /// # Ok::<(), bisquepond::Refusal>(())
+    /// ```
+    pub fn read_length_prefixed_string_marked(&mut self) -> Result<Marked<&'a [u8]>> {
         boundary::read_length_prefixed_string(self.bytes, &mut self.at)
+    }
+
+    /// An unsigned LEB128 number of at most ten bytes: its low 64 bits.
+    ///
+    /// # Errors
+    ///
+    /// `TooLong`; `PastEnd` if it stands past the end; `Cut` if the bytes end before the number does, `Leb128TooLong` if
+    /// its tenth byte has bit 7 set: it then stands after the last byte looked at.
+    ///
+    /// ```
+    /// let mut reader = bisquepond::io::ByteReader::new(&[0xB9, 0x64, 0x80]);
+    /// assert_eq!(reader.read_uleb128()?, 12857);
+    /// assert_eq!((reader.read_uleb128().unwrap_err().number, reader.position()), (3, 3));
+    /// # Ok::<(), bisquepond::Refusal>(())
+    /// ```
+    pub fn read_uleb128(&mut self) -> Result<u64> {
+        self.read_uleb128_marked().map(|read| read.value)
+    }
+
+    /// The same, and whether the number is exact: not so if its tenth byte is above 1.
+    ///
+    /// # Errors
+    ///
+    /// Those of [`read_uleb128`](Self::read_uleb128).
+    ///
+    /// ```
+    /// use bisquepond::io::ByteReader;
+    ///
+    /// let mut number = [0x80; 10];
+    /// for (last, value, exact) in [(0, 0, true), (1, 1 << 63, true), (2, 0, false)] {
+    ///     number[9] = last;
+    ///     let read = ByteReader::new(&number).read_uleb128_marked()?;
+    ///     assert_eq!((read.value, read.exact), (value, exact));
+    /// }
+    /// # Ok::<(), bisquepond::Refusal>(())
+    /// ```
+    pub fn read_uleb128_marked(&mut self) -> Result<Marked<u64>> {
+        boundary::read_uleb128(self.bytes, &mut self.at)
+    }
+
+    /// A signed LEB128 number of at most ten bytes: its low 64 bits, in two's complement.
+    ///
+    /// # Errors
+    ///
+    /// Those of [`read_uleb128`](Self::read_uleb128).
+    ///
+    /// ```
+    /// let mut reader = bisquepond::io::ByteReader::new(&[0x80, 0x7F, 0x80]);
+    /// assert_eq!(reader.read_sleb128()?, -128);
+    /// assert_eq!((reader.read_sleb128().unwrap_err().number, reader.position()), (3, 3));
+    /// # Ok::<(), bisquepond::Refusal>(())
+    /// ```
+    pub fn read_sleb128(&mut self) -> Result<i64> {
+        self.read_sleb128_marked().map(|read| read.value)
+    }
+
+    /// The same, and whether the number is exact: not so if its tenth byte is neither 00 nor 7F.
+    ///
+    /// # Errors
+    ///
+    /// Those of [`read_uleb128`](Self::read_uleb128).
+    ///
+    /// ```
+    /// use bisquepond::io::ByteReader;
+    ///
+    /// let mut number = [0x80; 10];
+    /// for (last, value, exact) in [(0, 0, true), (0x7F, i64::MIN, true), (1, i64::MIN, false)] {
+    ///     number[9] = last;
+    ///     let read = ByteReader::new(&number).read_sleb128_marked()?;
+    ///     assert_eq!((read.value, read.exact), (value, exact));
+    /// }
+    /// # Ok::<(), bisquepond::Refusal>(())
+    /// ```
+    pub fn read_sleb128_marked(&mut self) -> Result<Marked<i64>> {
+        boundary::read_sleb128(self.bytes, &mut self.at)
     }
 }
 
 macro_rules! numbers {
-    ($($errors:literal: $($(#[$doc:meta])* $name:ident -> $kind:ident, [$($byte:literal),*], $value:literal;)*)*) => {
+    ($($(#[$doc:meta])* $name:ident -> $kind:ident, [$($byte:literal),*], $value:literal;)*) => {
         impl ByteReader<'_> {
-            $($(
+            $(
                 $(#[$doc])*
                 ///
                 /// # Errors
                 ///
-                #[doc = $errors]
+                /// `TooLong`; `PastEnd` if it stands past the end; `Cut` if fewer bytes are left than the number has.
                 ///
                 /// ```
                 #[doc = concat!("let mut reader = bisquepond::io::ByteReader::new(&[", $(stringify!($byte), ", ",)* "]);")]
@@ -174,13 +312,12 @@ macro_rules! numbers {
                 pub fn $name(&mut self) -> Result<$kind> {
                     boundary::$name(self.bytes, &mut self.at)
                 }
-            )*)*
+            )*
         }
     };
 }
 
 numbers! {
-    "`TooLong`; `PastEnd` if it stands past the end; `Cut` if fewer bytes are left than the number has.":
     /// A byte.
     read_u8 -> u8, [0xFE], "254";
     /// A signed byte.
@@ -195,9 +332,4 @@ numbers! {
     read_i32 -> i32, [0xFE, 0xFF, 0xFF, 0xFF], "-2";
     /// A double of eight bytes; a NaN is some NaN.
     read_f64 -> f64, [0, 0, 0, 0, 0, 0, 0xF8, 0x3F], "1.5";
-    "`TooLong`; `PastEnd` if it stands past the end; `Cut` if the bytes end before the number does, `Leb128TooLong` if its tenth byte has bit 7 set: it then stands after the last byte looked at.":
-    /// An unsigned LEB128 number of at most ten bytes: its low 64 bits.
-    read_uleb128 -> u64, [0xB9, 0x64], "12857";
-    /// A signed LEB128 number of at most ten bytes.
-    read_sleb128 -> i64, [0x80, 0x7F], "-128";
 }

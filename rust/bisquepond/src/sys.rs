@@ -43,12 +43,12 @@ unsafe extern "C" {
     pub fn hbc_read_u64(s: *const u8, s_len: usize, at: *mut usize, value: *mut u64) -> u64;
     pub fn hbc_read_i32(s: *const u8, s_len: usize, at: *mut usize, value: *mut i32) -> u64;
     pub fn hbc_read_f64(s: *const u8, s_len: usize, at: *mut usize, value: *mut f64) -> u64;
-    pub fn hbc_read_uleb128(s: *const u8, s_len: usize, at: *mut usize, value: *mut u64) -> u64;
-    pub fn hbc_read_sleb128(s: *const u8, s_len: usize, at: *mut usize, value: *mut i64) -> u64;
+    pub fn hbc_read_uleb128(s: *const u8, s_len: usize, at: *mut usize, value: *mut u64, exact: *mut u32) -> u64;
+    pub fn hbc_read_sleb128(s: *const u8, s_len: usize, at: *mut usize, value: *mut i64, exact: *mut u32) -> u64;
 
     pub fn hbc_read_bytes(s: *const u8, s_len: usize, at: *mut usize, len: usize, start: *mut usize, size: *mut usize) -> u64;
     pub fn hbc_read_cstring(s: *const u8, s_len: usize, at: *mut usize, start: *mut usize, size: *mut usize) -> u64;
-    pub fn hbc_read_length_prefixed_string(s: *const u8, s_len: usize, at: *mut usize, start: *mut usize, size: *mut usize) -> u64;
+    pub fn hbc_read_length_prefixed_string(s: *const u8, s_len: usize, at: *mut usize, start: *mut usize, size: *mut usize, exact: *mut u32) -> u64;
 
     pub fn hbc_read_u32_table(s: *const u8, s_len: usize, at: *mut usize, count: u32, table: *mut u32, table_len: usize) -> u64;
     pub fn hbc_read_pair_table(s: *const u8, s_len: usize, at: *mut usize, count: u32, table: *mut u32, table_len: usize) -> u64;
@@ -70,5 +70,5 @@ unsafe extern "C" {
     pub fn hbc_read_handlers(file: *const u8, file_len: usize, functions: *const u32, functions_len: usize, count: u32, rows: *mut u32, rows_len: usize, total: *mut usize) -> u64;
     pub fn hbc_trailing_sections(file: *const u8, file_len: usize, start: usize, regexps: u32, storage: u32, cjs: u32, with_sources: bool, sources: u32, rows: *mut u32, rows_len: usize) -> u64;
 
-    pub fn hbc_read_debug(file: *const u8, file_len: usize, offset: u32, strings: *mut u32, strings_len: usize, scopes: *mut u32, scopes_len: usize, names: *mut u32, names_len: usize, callees: *mut u32, callees_len: usize, string_count: *mut usize, scope_count: *mut usize, name_count: *mut usize, callee_count: *mut usize) -> u64;
+    pub fn hbc_read_debug(file: *const u8, file_len: usize, offset: u32, strings: *mut u32, strings_len: usize, scopes: *mut u32, scopes_len: usize, names: *mut u32, names_len: usize, callees: *mut u32, callees_len: usize, string_count: *mut usize, scope_count: *mut usize, name_count: *mut usize, callee_count: *mut usize, exact: *mut u32) -> u64;
 }

@@ -146,6 +146,63 @@ fn p10_sleb128() {
     assert_eq!(read(&[[0x80; 9].as_slice(), &[2]].concat()), 0);
 }
 
+/// Every tenth byte behind nine bytes, against the number in 128 bits; a shorter number is always exact. The calls without
+/// the mark read the same.
+#[test]
+fn which_leb128_numbers_are_exact() {
+    for lead in [0x80, 0xFF, 0xA5] {
+        for len in 1..=10 {
+            for last in 0..128 {
+                let mut bytes = vec![lead; len];
+                bytes[len - 1] = last;
+                let digits = bytes.iter().rev();
+                let number = digits.fold(0u128, |sum, &byte| sum << 7 | u128::from(byte & 0x7F));
+                let unused = 128 - 7 * len;
+                let signed = (number << unused) as i128 >> unused;
+
+                let mut reader = ByteReader::new(&bytes);
+                let read = reader.read_uleb128_marked().unwrap();
+                assert_eq!(read.value, number as u64);
+                assert_eq!(read.exact, u128::from(read.value) == number);
+                assert_eq!(read.exact, len < 10 || last <= 1);
+                assert_eq!(read.if_exact(), read.exact.then_some(number as u64));
+                assert_eq!(reader.position(), len);
+                assert_eq!(ByteReader::new(&bytes).read_uleb128(), Ok(read.value));
+
+                let mut reader = ByteReader::new(&bytes);
+                let read = reader.read_sleb128_marked().unwrap();
+                assert_eq!(read.value, signed as i64);
+                assert_eq!(read.exact, i128::from(read.value) == signed);
+                assert_eq!(read.exact, len < 10 || last == 0 || last == 0x7F);
+                assert_eq!(reader.position(), len);
+                assert_eq!(ByteReader::new(&bytes).read_sleb128(), Ok(read.value));
+            }
+        }
+    }
+}
+
+#[test]
+fn a_marked_read_is_refused_as_the_other_is() {
+    let long = [0x80; 11];
+    for at in 0..=12 {
+        let reader = || ByteReader::at(&long, at);
+        let (mut plain, mut marked) = (reader(), reader());
+        let (a, b) = (plain.read_uleb128(), marked.read_uleb128_marked());
+        assert_eq!((refused(a), plain), (refused(b), marked));
+        let (mut plain, mut marked) = (reader(), reader());
+        let (a, b) = (plain.read_sleb128(), marked.read_sleb128_marked());
+        assert_eq!((refused(a), plain), (refused(b), marked));
+        let (mut plain, mut marked) = (reader(), reader());
+        let a = plain.read_length_prefixed_string();
+        let b = marked.read_length_prefixed_string_marked();
+        assert_eq!((refused(a), plain), (refused(b), marked));
+    }
+    // The length was read, and the bytes are too few.
+    let mut reader = ByteReader::new(&[3, b'h', b'i']);
+    let cut = reader.read_length_prefixed_string_marked();
+    assert_eq!((refused(cut), reader.position()), ((3, 0), 1));
+}
+
 #[test]
 fn a_cut_handler_and_a_padding_past_the_end() {
     let mut file = [0; 64];
@@ -707,6 +764,86 @@ fn debug_sections_of_any_size() {
         let none = debug::read_debug(&file, offset).unwrap();
         assert!(none.rows().strings.is_empty() && none.rows().scopes.is_empty());
     }
+}
+
+/// A number in ten bytes, the last of them this.
+fn ten(low: u8, last: u8) -> Vec<u8> {
+    [&[low | 0x80][..], &[0x80; 8], &[last]].concat()
+}
+
+/// Whether a section of these parts is exact, by both calls.
+fn exact(scopes: &[u8], callees: &[u8], strings: &[u8]) -> bool {
+    let file = section(scopes, callees, strings);
+    let debug = debug::read_debug(&file, 1).unwrap();
+    let mut lent = LentTables {
+        strings: &mut [TextRow::default(); 9],
+        scopes: &mut [ScopeRow::default(); 9],
+        names: &mut [NameRow::default(); 9],
+        callees: &mut [CalleeRow::default(); 9],
+    };
+    let rows = debug::read_debug_into(&file, 1, &mut lent).unwrap();
+    assert_eq!(rows, debug.rows());
+    debug.exact
+}
+
+#[test]
+fn which_debug_sections_are_exact() {
+    let none: &[u8] = &[];
+    assert!(exact(none, none, none));
+    assert!(exact(
+        &[&[0x7F, 0, 1][..], &ten(0, 0)].concat(),
+        &[1, 5, 0],
+        &ten(0, 1)
+    ));
+    // Each of a scope's four numbers and of a callee's three in ten bytes, exact, and with bits lost.
+    let lost = |low| ten(low, 2);
+    let scope = |place: usize, number: Vec<u8>| {
+        let mut numbers = [vec![0x7F], vec![0], vec![1], vec![0]];
+        numbers[place] = number;
+        numbers.concat()
+    };
+    let callee = |place: usize, number: Vec<u8>| {
+        let mut numbers = [vec![1], vec![5], vec![0]];
+        numbers[place] = number;
+        numbers.concat()
+    };
+    for place in 0..4 {
+        assert!(exact(&scope(place, ten(0, 0x7F)), none, none));
+        // With names that a string has, and with such as none has; counts of none, of one, and above the bytes left.
+        assert!(!exact(&scope(place, lost(0)), none, &[0]));
+        assert!(!exact(&scope(place, lost(1)), none, none));
+        assert!(!exact(&scope(place, lost(9)), none, none));
+    }
+    for place in 0..3 {
+        assert!(exact(none, &callee(place, ten(0, 0)), &[0]));
+        assert!(!exact(none, &callee(place, lost(0)), &[0]));
+        assert!(!exact(none, &callee(place, lost(1)), none));
+        assert!(!exact(none, &callee(place, lost(9)), none));
+    }
+    // The length of a string, of the last one, and of one that is cut.
+    assert!(!exact(none, none, &[&lost(1)[..], b"x\x01y"].concat()));
+    assert!(!exact(none, none, &[b"\x01y", &lost(1)[..], b"x"].concat()));
+    assert!(!exact(none, none, &lost(1)));
+    // A scope that is given up, and a callee whose name is not there.
+    assert!(!exact(&[&[0][..], &lost(0)].concat(), none, none));
+    assert!(!exact(none, &[&[1][..], &lost(0)].concat(), none));
+    // Eleven bytes are no number, and behind an address that fails no name is read.
+    let eleven = [0xFF; 10];
+    assert!(exact(&eleven, &eleven, &eleven));
+    let unread = [&[9][..], &eleven, &lost(0)].concat();
+    assert!(exact(none, &unread, none));
+    // No debug information.
+    let file = section(&lost(0), none, none);
+    for offset in [0, u32::MAX, file.len() as u32] {
+        assert!(debug::read_debug(&file, offset).unwrap().exact);
+    }
+    // A part that is outside the data, or reversed, is not read.
+    for (word, number) in [(3, 99), (4, 99), (6, 98)] {
+        let mut file = file.clone();
+        file[1 + 4 * word] = number;
+        assert!(debug::read_debug(&file, 1).unwrap().exact);
+    }
+    assert!(!debug::read_debug(&file, 1).unwrap().exact);
 }
 
 /// Rows and words are the same memory, in both directions.

@@ -4,6 +4,7 @@ mod case;
 mod differences;
 mod groups;
 mod hostile;
+mod numbers;
 mod record;
 
 use crate::run::Layer;

@@ -86,6 +86,33 @@ impl Answer {
     }
 }
 
+/// A number that is lent, between two others that no call may touch.
+pub struct Number<T> {
+    all: [T; 3],
+    beside: T,
+}
+
+impl<T: Copy + PartialEq> Number<T> {
+    /// It holds `before`, and those beside it hold `beside`.
+    pub fn new(before: T, beside: T) -> Self {
+        Number { all: [beside, before, beside], beside }
+    }
+
+    /// As it is lent.
+    pub fn lent(&mut self) -> *mut T {
+        unsafe { self.all.as_mut_ptr().add(1) }
+    }
+
+    /// What it holds; an error where a number beside it was written.
+    pub fn held(&self) -> Result<T, String> {
+        let [before, held, behind] = self.all;
+        match before == self.beside && behind == self.beside {
+            true => Ok(held),
+            false => Err("a number beside a lent one was written".to_string()),
+        }
+    }
+}
+
 /// A table of so many words that it cannot be filled: addresses without memory, all zeros, that may be read alone. A
 /// call that writes there ends the program.
 pub struct Reserved<T> {

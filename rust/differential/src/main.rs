@@ -12,6 +12,8 @@ mod debug;
 #[cfg(published)]
 mod differences;
 #[cfg(published)]
+mod exact;
+#[cfg(published)]
 mod function;
 #[cfg(published)]
 mod hostile;

@@ -216,7 +216,11 @@ fn write(layers: &[&Layer], seed: u64, file: &str) -> ExitCode {
             println!("{line}");
         }
     }
-    assert!(bytes.len() <= record::MOST_BYTES, "{} bytes are too many for a program that replays them", bytes.len());
+    assert!(
+        bytes.len() <= record::MOST_BYTES,
+        "{} bytes are too many for a program that replays them",
+        bytes.len()
+    );
     match std::fs::write(file, &bytes) {
         Ok(()) => {
             println!("{} bytes written to {file}", count(bytes.len() as u64));

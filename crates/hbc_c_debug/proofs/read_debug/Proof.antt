@@ -10,6 +10,9 @@ read-debug-requires c κs = search needs
 enum-known-k : tie.Need-enum-known-k
 enum-known-k c = search needs
 
+cast-exact : tie.Need-cast-exact
+cast-exact c = search needs
+
 enum-known-r : tie.Need-enum-known-r
 enum-known-r c = search needs
 
@@ -52,6 +55,7 @@ read-debug-spec =
     (tie.spec
     read-debug-requires
     enum-known-k
+    cast-exact
     enum-known-r
     code-requires
     same-length

@@ -1,6 +1,5 @@
 use mathlib.Core.Path.{ap, sym, _∙_}
-use Rattle.hbc_c_code.specs.Code.{codeIn}
-use Rattle.hbc_c_function.specs.Function.{truth}
+use Rattle.hbc_c_code.specs.Code.{codeIn, truth}
 use Rattle.hbc_function_header.specs.Meets.{saysMeeting}
 use borrow.Author.Needs.{needs}
 use Rattle.hbc_c_function.proofs.meets_code.Statement.{statement}

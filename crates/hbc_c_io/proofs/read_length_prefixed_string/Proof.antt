@@ -1,6 +1,10 @@
-use Rattle.hbc_io.specs.Answers.{saysSpan}
+use mathlib.Core.Path.{ap}
+use Rattle.hbc_io.specs.Outcome.{valued}
 use Rattle.hbc_io.proofs.Reading.{found}
-use Rattle.hbc_c_io.proofs.Spans.{span-got, span-refused}
+use Rattle.hbc_io_strings.specs.Strings.{saysPrefixed}
+use Rattle.hbc_io_strings.specs.declared.Prefixed.{Prefixed}
+use Rattle.hbc_io_strings.proofs.Strings as string
+use Rattle.hbc_c_io.proofs.Spans.{span-got, span-refused, marked-got, marked-refused}
 use borrow.Author.Needs.{needs}
 use Rattle.hbc_c_io.proofs.read_length_prefixed_string.Statement.{statement}
 use Rattle.hbc_c_io.proofs.read_length_prefixed_string.Tie as tie
@@ -11,6 +15,9 @@ read-length-prefixed-string-requires c κs = search needs
 enum-known-p : tie.Need-enum-known-p
 enum-known-p c = search needs
 
+cast-exact : tie.Need-cast-exact
+cast-exact c = search needs
+
 enum-known-r : tie.Need-enum-known-r
 enum-known-r c = search needs
 
@@ -18,10 +25,10 @@ code-requires : tie.Need-code-requires
 code-requires c κs = search needs
 
 returns : tie.Need-returns
-returns c = span-got (found saysSpan (c .before .before .before .read-length-prefixed-string .ensures) (c .before .p .given .1))
+returns c = marked-got (span-got (string.span-got _ _ (found saysPrefixed (c .before .before .before .before .read-length-prefixed-string .ensures) (c .before .before .p .given .1)))) (ap (valued (λ (p : Prefixed). p .exact)) (found saysPrefixed (c .before .before .before .before .read-length-prefixed-string .ensures) (c .before .before .p .given .1)))
 
 returns-2 : tie.Need-returns-2
-returns-2 c = span-refused (found saysSpan (c .before .before .before .before .read-length-prefixed-string .ensures) (c .before .before .r .given .1)) (c .code .ensures)
+returns-2 c = marked-refused (span-refused (string.span-refused _ _ (found saysPrefixed (c .before .before .before .before .read-length-prefixed-string .ensures) (c .before .before .r .given .1))) (c .code .ensures)) (ap (valued (λ (p : Prefixed). p .exact)) (found saysPrefixed (c .before .before .before .before .read-length-prefixed-string .ensures) (c .before .before .r .given .1)))
 
 pub read-length-prefixed-string-spec : {M : Type 1} → statement M
 read-length-prefixed-string-spec =
@@ -29,6 +36,7 @@ read-length-prefixed-string-spec =
     (tie.spec
     read-length-prefixed-string-requires
     enum-known-p
+    cast-exact
     enum-known-r
     code-requires
     returns

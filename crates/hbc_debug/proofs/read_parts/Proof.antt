@@ -1,7 +1,7 @@
 use native.Mathlib.Omega.{arith}
 use denote.Ref.{now}
 use Rattle.hbc_debug.specs.Debug.{contents}
-use Rattle.hbc_debug.proofs.Whole.{strings-most, all-fit, read-done, read-4}
+use Rattle.hbc_debug.proofs.Whole.{strings-most, all-fit, marks-are, read-done, read-4}
 use borrow.Author.Needs.{needs}
 use Rattle.hbc_debug.proofs.read_parts.Statement.{statement}
 use Rattle.hbc_debug.proofs.read_parts.Tie as tie
@@ -13,7 +13,7 @@ scope-counts-requires : tie.Need-scope-counts-requires
 scope-counts-requires c κs = search needs
 
 cast-callee-count : tie.Need-cast-callee-count
-cast-callee-count c = omega (arith, strings-most (now (c .before .before .before .before .before .before .before .before .before .args .string-part)), c .before .string-count .ensures, c .before .before .before .before .before .before .before .before .before .pre .0)
+cast-callee-count c = omega (arith, strings-most (now (c .before .before .before .before .before .before .before .before .before .args .string-part)), c .before .string-count .ensures .0, c .before .before .before .before .before .before .before .before .before .pre .0)
 
 callee-count-requires : tie.Need-callee-count-requires
 callee-count-requires c κs = search needs
@@ -22,19 +22,19 @@ fits-requires : tie.Need-fits-requires
 fits-requires c κs = search needs
 
 put-strings-requires : tie.Need-put-strings-requires
-put-strings-requires c κs = (c .before .before .before .before .before .before .before .before .before .before .before .before .before .pre .0, c .before .before .before .before .before .string-count .ensures, all-fit _ _ (c .before .before .fits2 .ensures) (c .before .if1 .taken) .strings)
+put-strings-requires c κs = (c .before .before .before .before .before .before .before .before .before .before .before .before .before .pre .0, c .before .before .before .before .before .string-count .ensures .0, all-fit _ _ (c .before .before .fits2 .ensures) (c .before .if1 .taken) .strings)
 
 cast-put-scopes : tie.Need-cast-put-scopes
-cast-put-scopes c = omega (arith, strings-most (now (c .before .before .before .before .before .before .before .before .before .before .before .before .before .before .before .before .args .string-part)), c .before .before .before .before .before .before .before .before .string-count .ensures, c .before .before .before .before .before .before .before .before .before .before .before .before .before .before .before .before .pre .0)
+cast-put-scopes c = omega (arith, strings-most (now (c .before .before .before .before .before .before .before .before .before .before .before .before .before .before .before .before .args .string-part)), c .before .before .before .before .before .before .before .before .string-count .ensures .0, c .before .before .before .before .before .before .before .before .before .before .before .before .before .before .before .before .pre .0)
 
 put-scopes-requires : tie.Need-put-scopes-requires
-put-scopes-requires c κs = let fit = all-fit _ _ (c .before .before .before .before .before .before .before .fits2 .ensures) (c .before .before .before .before .before .before .if1 .taken) in ((c .before .before .before .before .before .before .before .before .before .before .before .before .before .before .before .before .before .before .pre .1, c .before .before .before .before .before .before .before .before .before .scope-counts .ensures), (fit .scopes, fit .names))
+put-scopes-requires c κs = let fit = all-fit _ _ (c .before .before .before .before .before .before .before .fits2 .ensures) (c .before .before .before .before .before .before .if1 .taken) in ((c .before .before .before .before .before .before .before .before .before .before .before .before .before .before .before .before .before .before .pre .1, c .before .before .before .before .before .before .before .before .before .scope-counts .ensures .0), (fit .scopes, fit .names))
 
 cast-put-callees : tie.Need-cast-put-callees
-cast-put-callees c = omega (arith, strings-most (now (c .before .before .before .before .before .before .before .before .before .before .before .before .before .before .before .before .before .before .before .before .before .before .before .args .string-part)), c .before .before .before .before .before .before .before .before .before .before .before .before .before .before .before .string-count .ensures, c .before .before .before .before .before .before .before .before .before .before .before .before .before .before .before .before .before .before .before .before .before .before .before .pre .0)
+cast-put-callees c = omega (arith, strings-most (now (c .before .before .before .before .before .before .before .before .before .before .before .before .before .before .before .before .before .before .before .before .before .before .before .args .string-part)), c .before .before .before .before .before .before .before .before .before .before .before .before .before .before .before .string-count .ensures .0, c .before .before .before .before .before .before .before .before .before .before .before .before .before .before .before .before .before .before .before .before .before .before .before .pre .0)
 
 put-callees-requires : tie.Need-put-callees-requires
-put-callees-requires c κs = (c .before .before .before .before .before .before .before .before .before .before .before .before .before .before .before .before .before .before .before .before .before .before .before .before .pre .2, c .before .before .before .before .before .before .before .before .before .before .before .before .before .before .callee-count .ensures, all-fit _ _ (c .before .before .before .before .before .before .before .before .before .before .before .before .before .fits2 .ensures) (c .before .before .before .before .before .before .before .before .before .before .before .before .if1 .taken) .callees)
+put-callees-requires c κs = (c .before .before .before .before .before .before .before .before .before .before .before .before .before .before .before .before .before .before .before .before .before .before .before .before .pre .2, c .before .before .before .before .before .before .before .before .before .before .before .before .before .before .callee-count .ensures .0, all-fit _ _ (c .before .before .before .before .before .before .before .before .before .before .before .before .before .fits2 .ensures) (c .before .before .before .before .before .before .before .before .before .before .before .before .if1 .taken) .callees)
 
 same-length : tie.Need-same-length
 same-length c = search needs
@@ -50,9 +50,10 @@ same-length-4 c = search needs
 
 returns : tie.Need-returns
 returns c =
-    let a = c .before .before .before .before .before .before .before .before .before .before .before .before .before .before .before .before .before .before .before .before .before .before .before .before .before .before .before .args in
-    read-done (contents (now (a .string-part)) (a .base) (now (a .scope-part)) (now (a .callee-part))) _ (c .before .before .before .before .before .before .before .before .before .before .before .before .before .before .before .before .before .before .before .string-count .ensures) (c .before .before .before .before .before .before .before .before .before .before .before .before .before .before .before .before .before .before .scope-counts .ensures) (c .before .before .before .before .before .before .before .before .before .before .before .before .before .before .before .before .before .callee-count .ensures) (c .before .before .before .before .before .before .before .before .before .before .before .before .before .before .before .before .fits2 .ensures)
-    (c .before .before .before .before .before .before .before .before .before .before .before .before .before .before .before .if1 .taken) (c .before .before .before .before .before .before .before .before .before .before .before .before .before .put-strings .ensures) (c .before .before .before .before .before .before .before .before .put-scopes .ensures) (c .before .before .put-callees .ensures)
+    let a = c .before .before .before .before .before .before .before .before .before .before .before .before .before .before .before .before .before .before .before .before .before .before .before .before .before .before .before .before .before .before .args in
+    read-done (contents (now (a .string-part)) (a .base) (now (a .scope-part)) (now (a .callee-part))) _ (c .before .before .before .before .before .before .before .before .before .before .before .before .before .before .before .before .before .before .before .before .before .before .string-count .ensures .0) (c .before .before .before .before .before .before .before .before .before .before .before .before .before .before .before .before .before .before .before .before .before .scope-counts .ensures .0) (c .before .before .before .before .before .before .before .before .before .before .before .before .before .before .before .before .before .before .before .before .callee-count .ensures .0) (c .before .before .before .before .before .before .before .before .before .before .before .before .before .before .before .before .before .before .before .fits2 .ensures)
+    (c .before .before .before .before .before .before .before .before .before .before .before .before .before .before .before .before .before .before .if1 .taken) (c .before .before .before .before .before .before .before .before .before .before .before .before .before .before .before .before .put-strings .ensures) (c .before .before .before .before .before .before .before .before .before .before .before .put-scopes .ensures) (c .before .before .before .before .before .put-callees .ensures)
+    (marks-are (contents (now (a .string-part)) (a .base) (now (a .scope-part)) (now (a .callee-part))) (c .before .before .before .before .before .before .before .before .before .before .before .before .before .before .before .before .before .before .before .before .before .before .string-count .ensures .0) (c .before .before .before .before .before .before .before .before .before .before .before .before .before .before .before .before .before .before .before .before .before .scope-counts .ensures .1) (c .before .before .before .before .before .before .before .before .before .before .before .before .before .before .before .before .before .before .before .before .callee-count .ensures .1) (c .before .before .before .before .before .before .before .before .before .before .before .before .before .before .before .before .before .before .before .before .before .before .string-count .ensures .1))
 
 refuse-requires : tie.Need-refuse-requires
 refuse-requires c κs = search needs
@@ -60,7 +61,7 @@ refuse-requires c κs = search needs
 returns-2 : tie.Need-returns-2
 returns-2 c =
     let a = c .before .before .before .before .before .before .before .before .before .before .before .before .before .args in
-    read-4 (contents (now (a .string-part)) (a .base) (now (a .scope-part)) (now (a .callee-part))) _ (c .before .before .before .before .before .string-count .ensures) (c .before .before .before .before .scope-counts .ensures) (c .before .before .before .callee-count .ensures) (c .before .before .fits2 .ensures)
+    read-4 (contents (now (a .string-part)) (a .base) (now (a .scope-part)) (now (a .callee-part))) _ (c .before .before .before .before .before .string-count .ensures .0) (c .before .before .before .before .scope-counts .ensures .0) (c .before .before .before .callee-count .ensures .0) (c .before .before .fits2 .ensures)
     (c .before .if1 .left) (c .refuse .ensures)
 
 pub read-parts-spec : {M : Type 1} → statement M

@@ -19,7 +19,7 @@ count-requires c κs = search needs
 
 returns-2 : tie.Need-returns-2
 unfolding countScopes
-returns-2 c = ap gives (counts-are _ _ (c .count .ensures)) ∙ limit-in _ _ (c .before .if1 .left)
+returns-2 c = ap gives (counts-are _ _ (c .count .ensures .0) (c .count .ensures .1)) ∙ limit-in _ _ (c .before .if1 .left)
 
 pub count-scopes-spec : {M : Type 1} → statement M
 count-scopes-spec = tie.close (tie.spec refuse-requires returns count-requires returns-2)

@@ -39,7 +39,7 @@ same-length-2 c = c .before .before .before .before .before .loop .inv .1 .size
 
 returns : tie.Need-returns Inv-loop μ-loop
 returns c =
-    let e = scope-refused _ _ _ _ (found saysHead (c .before .before .before .read-head .ensures) (c .before .r .given .1)) in
+    let e = scope-refused _ _ _ _ (found saysHead (c .before .before .before .read-head .ensures .0) (c .before .r .given .1)) in
     record { rows-are = rowed-stop e (c .before .before .before .before .before .loop .inv .0); names-are = written-stop e (c .before .before .before .before .before .loop .inv .1) }
 
 enum-known-h : tie.Need-enum-known-h Inv-loop μ-loop
@@ -47,22 +47,22 @@ enum-known-h c = search needs
 
 write-names-requires : tie.Need-write-names-requires Inv-loop μ-loop
 write-names-requires c κs =
-    let e = found saysHead (c .before .before .before .before .read-head .ensures) (c .before .before .h .given .1) in
+    let e = found saysHead (c .before .before .before .before .read-head .ensures .0) (c .before .before .h .given .1) in
     omega (arith, head-most _ _ _ _ e, c .before .before .before .before .before .before .loop .inv .3, c .before .before .before .before .before .before .loop .inv .4, c .before .before .before .before .before .before .before .before .before .before .good .0)
 
 cast-t19 : tie.Need-cast-t19 Inv-loop μ-loop
 cast-t19 c =
-    let t = turn _ _ _ _ _ _ (found saysHead (c .before .before .before .before .before .before .before .before .read-head .ensures) (c .before .before .before .before .before .before .h .given .1)) (c .before .before .before .write-names .ensures .0) in
+    let t = turn _ _ _ _ _ _ (found saysHead (c .before .before .before .before .before .before .before .before .read-head .ensures .0) (c .before .before .before .before .before .before .h .given .1)) (c .before .before .before .write-names .ensures .0) in
     omega (arith, t .short, c .before .before .before .before .before .before .before .before .before .before .loop .inv .4)
 
 cast-t20 : tie.Need-cast-t20 Inv-loop μ-loop
 cast-t20 c =
-    let t = turn _ _ _ _ _ _ (found saysHead (c .before .before .before .before .before .before .before .before .read-head .ensures) (c .before .before .before .before .before .before .h .given .1)) (c .before .before .before .write-names .ensures .0) in
+    let t = turn _ _ _ _ _ _ (found saysHead (c .before .before .before .before .before .before .before .before .read-head .ensures .0) (c .before .before .before .before .before .before .h .given .1)) (c .before .before .before .write-names .ensures .0) in
     omega (arith, t .short, c .before .before .before .before .before .before .before .before .before .before .loop .inv .3, c .before .before .before .before .before .before .before .before .before .before .loop .inv .4)
 
 cast-t21 : tie.Need-cast-t21 Inv-loop μ-loop
 cast-t21 c =
-    let t = turn _ _ _ _ _ _ (found saysHead (c .before .before .before .before .before .before .before .before .before .read-head .ensures) (c .before .before .before .before .before .before .before .h .given .1)) (c .before .before .before .before .write-names .ensures .0) in
+    let t = turn _ _ _ _ _ _ (found saysHead (c .before .before .before .before .before .before .before .before .before .read-head .ensures .0) (c .before .before .before .before .before .before .before .h .given .1)) (c .before .before .before .before .write-names .ensures .0) in
     omega (arith, t .short, t .low, t .high)
 
 slice-aggregate-put-words : tie.Need-slice-aggregate-put-words Inv-loop μ-loop
@@ -73,12 +73,12 @@ put-words-requires c κs = search needs
 
 add-at : tie.Need-add-at Inv-loop μ-loop
 add-at c =
-    let t = turn _ _ _ _ _ _ (found saysHead (c .before .before .before .before .before .before .before .before .before .before .before .before .before .before .before .read-head .ensures) (c .before .before .before .before .before .before .before .before .before .before .before .before .before .h .given .1)) (c .before .before .before .before .before .before .before .before .before .before .write-names .ensures .0) in
+    let t = turn _ _ _ _ _ _ (found saysHead (c .before .before .before .before .before .before .before .before .before .before .before .before .before .before .before .read-head .ensures .0) (c .before .before .before .before .before .before .before .before .before .before .before .before .before .h .given .1)) (c .before .before .before .before .before .before .before .before .before .before .write-names .ensures .0) in
     omega (arith, c .before .before .before .before .before .before .before .before .before .before .before .before .before .before .before .before .before .loop .inv .2, t .short, c .before .before .before .before .before .before .before .before .before .before .before .before .before .before .before .before .loop-test .taken)
 
 add-first : tie.Need-add-first Inv-loop μ-loop
 add-first c =
-    let t = turn _ _ _ _ _ _ (found saysHead (c .before .before .before .before .before .before .before .before .before .before .before .before .before .before .before .before .read-head .ensures) (c .before .before .before .before .before .before .before .before .before .before .before .before .before .before .h .given .1)) (c .before .before .before .before .before .before .before .before .before .before .before .write-names .ensures .0) in
+    let t = turn _ _ _ _ _ _ (found saysHead (c .before .before .before .before .before .before .before .before .before .before .before .before .before .before .before .before .read-head .ensures .0) (c .before .before .before .before .before .before .before .before .before .before .before .before .before .before .h .given .1)) (c .before .before .before .before .before .before .before .before .before .before .before .write-names .ensures .0) in
     omega (arith, t .short, t .low, t .high, c .before .before .before .before .before .before .before .before .before .before .before .before .before .before .before .before .before .before .loop .inv .3)
 
 sub-left : tie.Need-sub-left Inv-loop μ-loop
@@ -91,7 +91,7 @@ loop-again : tie.Need-loop-again Inv-loop μ-loop
 loop-again c =
     let l = c .before .before .before .before .before .before .before .before .before .before .before .before .before .before .before .before .before .before .loop in
     let more = c .before .before .before .before .before .before .before .before .before .before .before .before .before .before .before .before .before .loop-test .taken in
-    let t = turn _ _ _ _ _ _ (found saysHead (c .before .before .before .before .before .before .before .before .before .before .before .before .before .before .before .before .read-head .ensures) (c .before .before .before .before .before .before .before .before .before .before .before .before .before .before .h .given .1)) (c .before .before .before .before .before .before .before .before .before .before .before .write-names .ensures .0) in
+    let t = turn _ _ _ _ _ _ (found saysHead (c .before .before .before .before .before .before .before .before .before .before .before .before .before .before .before .before .read-head .ensures .0) (c .before .before .before .before .before .before .before .before .before .before .before .before .before .before .h .given .1)) (c .before .before .before .before .before .before .before .before .before .before .before .write-names .ensures .0) in
     let put = c .before .before .before .before .put-words .ensures ∙ ap (sets (l .rows) (l .at)) (t .row (l .first)) in (
       rowed-on scopeWidth _ more (t .is) (row-size _ _) (t .count) put (l .inv .0),
       turned _ _ t more (c .before .before .before .before .before .before .before .before .before .before .before .write-names .ensures .1) (l .inv .1),

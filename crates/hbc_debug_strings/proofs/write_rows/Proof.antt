@@ -4,9 +4,9 @@ use mathlib.Core.Path.{_≡_, refl, ap, _∙_}
 use mathlib.Core.List.{[], _∷_}
 use lib.ListN.{length}
 use lib.Seq.{sets}
-use Rattle.hbc_io.specs.Answers.{saysSpan}
 use Rattle.hbc_io.proofs.Reading.{found}
-use Rattle.hbc_io_strings.specs.Strings.{prefixed}
+use Rattle.hbc_io_strings.specs.Strings.{prefixed, saysPrefixed}
+use Rattle.hbc_io_strings.proofs.Strings.{span-got, span-refused}
 use Rattle.hbc_rows.proofs.Passes.{Written, written-first, written-on, written-stop, written-done}
 use Rattle.hbc_debug_parts.specs.declared.InFile.{InFile}
 use Rattle.hbc_debug_strings.specs.Strings.{stringsOf, stringWidth, stringRow}
@@ -37,19 +37,19 @@ same-length : tie.Need-same-length Inv-loop μ-loop
 same-length c = c .before .before .before .before .before .loop .inv .0 .size
 
 returns : tie.Need-returns Inv-loop μ-loop
-returns c = written-stop (found saysSpan (c .before .before .before .read-length-prefixed-string .ensures) (c .before .r .given .1)) (c .before .before .before .before .before .loop .inv .0)
+returns c = written-stop (span-refused _ _ (found saysPrefixed (c .before .before .before .read-length-prefixed-string .ensures) (c .before .r .given .1))) (c .before .before .before .before .before .loop .inv .0)
 
 enum-known-p : tie.Need-enum-known-p Inv-loop μ-loop
 enum-known-p c = search needs
 
 part-to-file-requires : tie.Need-part-to-file-requires Inv-loop μ-loop
-part-to-file-requires c κs = omega (arith, inside _ _ _ _ (found saysSpan (c .before .before .before .read-length-prefixed-string .ensures) (c .before .p .given .1)))
+part-to-file-requires c κs = omega (arith, inside _ _ _ _ (span-got _ _ (found saysPrefixed (c .before .before .before .read-length-prefixed-string .ensures) (c .before .p .given .1))))
 
 cast-t14 : tie.Need-cast-t14 Inv-loop μ-loop
-cast-t14 c = let f = ap (λ (x : InFile). x .0) (c .before .part-to-file .ensures) in omega (arith, inside _ _ _ _ (found saysSpan (c .before .before .before .before .before .read-length-prefixed-string .ensures) (c .before .before .before .p .given .1)))
+cast-t14 c = let f = ap (λ (x : InFile). x .0) (c .before .part-to-file .ensures) in omega (arith, inside _ _ _ _ (span-got _ _ (found saysPrefixed (c .before .before .before .before .before .read-length-prefixed-string .ensures) (c .before .before .before .p .given .1))))
 
 cast-t15 : tie.Need-cast-t15 Inv-loop μ-loop
-cast-t15 c = omega (arith, inside _ _ _ _ (found saysSpan (c .before .before .before .before .before .before .read-length-prefixed-string .ensures) (c .before .before .before .before .p .given .1)))
+cast-t15 c = omega (arith, inside _ _ _ _ (span-got _ _ (found saysPrefixed (c .before .before .before .before .before .before .read-length-prefixed-string .ensures) (c .before .before .before .before .p .given .1))))
 
 slice-aggregate-put-words : tie.Need-slice-aggregate-put-words Inv-loop μ-loop
 slice-aggregate-put-words c = search needs
@@ -72,8 +72,8 @@ loop-again c =
     let p = c .before .before .before .before .before .before .before .before .before .p in
     let f = c .before .before .before .before .before .before .before .part-to-file .ensures in
     let start = ap (λ (x : InFile). x .0) f in
-    let put = c .before .before .put-words .ensures ∙ ap (λ (x : InFile). sets (l .rows) (l .at) (x .0 ∷ p .given .0 .0 .len ∷ [])) f in
-    let read = found saysSpan (c .before .before .before .before .before .before .before .before .before .before .before .read-length-prefixed-string .ensures) (p .given .1) in
+    let put = c .before .before .put-words .ensures ∙ ap (λ (x : InFile). sets (l .rows) (l .at) (x .0 ∷ p .given .0 .0 .span .len ∷ [])) f in
+    let read = span-got _ _ (found saysPrefixed (c .before .before .before .before .before .before .before .before .before .before .before .read-length-prefixed-string .ensures) (p .given .1)) in
     (written-on stringWidth (c .before .before .before .before .before .before .before .before .before .before .before .before .loop-test .taken) read refl put (l .inv .0), omega arith)
 
 same-length-2 : tie.Need-same-length-2 Inv-loop μ-loop

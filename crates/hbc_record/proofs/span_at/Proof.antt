@@ -1,5 +1,6 @@
 use Rattle.hbc_io.proofs.Reading.{found}
-use Rattle.hbc_io.specs.Answers.{saysSpan}
+use Rattle.hbc_io_strings.specs.Strings.{saysPrefixed}
+use Rattle.hbc_io_strings.proofs.Strings as string
 use Rattle.hbc_record.proofs.Recorded.{span-got, span-refused}
 use borrow.Author.Needs.{needs}
 use Rattle.hbc_record.proofs.span_at.Statement.{statement}
@@ -15,10 +16,10 @@ enum-told : tie.Need-enum-told
 enum-told c = search needs
 
 returns : tie.Need-returns
-returns c = span-got _ _ (found saysSpan (c .before .before .before .read-length-prefixed-string .ensures) (c .before .p .given .1))
+returns c = span-got _ _ (string.span-got _ _ (found saysPrefixed (c .before .before .before .before .read-length-prefixed-string .ensures) (c .before .before .p .given .1)))
 
 returns-2 : tie.Need-returns-2
-returns-2 c = span-refused _ _ (found saysSpan (c .before .before .read-length-prefixed-string .ensures) (c .enum-told .given .1))
+returns-2 c = span-refused _ _ (string.span-refused _ _ (found saysPrefixed (c .before .before .read-length-prefixed-string .ensures) (c .enum-told .given .1)))
 
 pub span-at-spec : {M : Type 1} → statement M
 span-at-spec =

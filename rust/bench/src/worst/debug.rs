@@ -9,6 +9,8 @@ use crate::table::Bench;
 /// Ten bytes that read as 0, and ten of which the last says that more follow, so that they are refused.
 const LONG: [u8; 10] = [0x80, 0x80, 0x80, 0x80, 0x80, 0x80, 0x80, 0x80, 0x80, 0];
 const CUT: [u8; 10] = [0xFF; 10];
+/// The same as the first but for bits that are lost.
+const LOST: [u8; 10] = [0x80, 0x80, 0x80, 0x80, 0x80, 0x80, 0x80, 0x80, 0x80, 0x7E];
 
 pub fn rows(bench: &Bench) {
     let call = "read_debug";
@@ -18,6 +20,12 @@ pub fn rows(bench: &Bench) {
     row(bench, call, "strings of no bytes, prefixes of ten", |n| {
         of_strings(LONG.repeat(n), n)
     });
+    row(
+        bench,
+        call,
+        "strings of no bytes, prefixes that lost bits",
+        |n| of_strings(LOST.repeat(n), n),
+    );
     row(bench, call, "strings of any length to 200", |n| {
         let mut random = Random::new(1);
         let mut part = Vec::new();
@@ -40,6 +48,12 @@ pub fn rows(bench: &Bench) {
         call,
         "scopes of no names, numbers of ten bytes",
         |n| of_scopes(LONG.repeat(3 * n), n),
+    );
+    row(
+        bench,
+        call,
+        "scopes of no names, numbers that lost bits",
+        |n| of_scopes(LOST.repeat(3 * n), n),
     );
     row(bench, call, "scopes whose one name is cut", |n| {
         of_scopes([[0x7F, 0, 1].as_slice(), &CUT].concat().repeat(n), n)
@@ -66,6 +80,13 @@ pub fn rows(bench: &Bench) {
         of_callees(n, true, |part, i| {
             part.extend(long(i as u64));
             part.extend(LONG);
+        })
+    });
+    row(bench, call, "callees rising, numbers that lost bits", |n| {
+        of_callees(n, true, |part, i| {
+            part.extend(&long(i as u64)[..9]);
+            part.push(0x7E);
+            part.extend(LOST);
         })
     });
     row(bench, call, "callees of unknown names", |n| {

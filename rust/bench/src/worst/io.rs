@@ -30,9 +30,9 @@ macro_rules! plain {
 
 /// A row for a call that reads one thing of ten bytes after the other: here `name`, there what it leaves.
 macro_rules! walk {
-    ($bench:ident, $name:literal, $input:literal, $byte:expr, $call:expr) => {
+    ($bench:ident, $name:expr, $input:literal, $byte:expr, $last:expr, $call:expr) => {
         row($bench, $name, $input, |n| {
-            let file: Vec<u8> = [[$byte; 9].as_slice(), &[0]].concat().repeat(n);
+            let file: Vec<u8> = [[$byte; 9].as_slice(), &[$last]].concat().repeat(n);
             let read = move || {
                 let mut at = 0;
                 calls(n, |_| $call(file.as_ptr(), file.len(), &mut at))
@@ -65,35 +65,52 @@ pub fn rows(bench: &Bench) {
     plain!(bench, hbc_read_i32, "read_i32", 0);
     plain!(bench, hbc_read_f64, "read_f64", 0.0);
     moves(bench);
+    let unsigned = |s, len, at: &mut usize| {
+        let (mut value, mut exact) = (0, 0);
+        unsafe { hbc_read_uleb128(s, len, at, &mut value, &mut exact) }
+    };
+    let signed = |s, len, at: &mut usize| {
+        let (mut value, mut exact) = (0, 0);
+        unsafe { hbc_read_sleb128(s, len, at, &mut value, &mut exact) }
+    };
+    let prefixed = |s, len, at: &mut usize| {
+        let (mut start, mut size, mut exact) = (0, 0, 0);
+        unsafe { hbc_read_length_prefixed_string(s, len, at, &mut start, &mut size, &mut exact) }
+    };
+    walk!(bench, "read_uleb128", "ten bytes each", 0xFF, 0, unsigned);
     walk!(
         bench,
         "read_uleb128",
-        "ten bytes each",
+        "ten bytes each, bits lost",
         0xFF,
-        |s, len, at| {
-            let mut value = 0;
-            unsafe { hbc_read_uleb128(s, len, at, &mut value) }
-        }
+        0x7E,
+        unsigned
     );
+    walk!(bench, "read_sleb128", "ten bytes each", 0xFF, 0, signed);
     walk!(
         bench,
         "read_sleb128",
-        "ten bytes each",
+        "ten bytes each, bits lost",
         0xFF,
-        |s, len, at| {
-            let mut value = 0;
-            unsafe { hbc_read_sleb128(s, len, at, &mut value) }
-        }
+        0x7E,
+        signed
+    );
+    let name = "read_length_prefixed_string";
+    walk!(
+        bench,
+        name,
+        "empty, prefixes of ten bytes",
+        0x80,
+        0,
+        prefixed
     );
     walk!(
         bench,
-        "read_length_prefixed_string",
-        "empty, prefixes of ten bytes",
+        name,
+        "empty, prefixes that lost bits",
         0x80,
-        |s, len, at| {
-            let (mut start, mut size) = (0, 0);
-            unsafe { hbc_read_length_prefixed_string(s, len, at, &mut start, &mut size) }
-        }
+        0x7E,
+        prefixed
     );
     row(bench, "read_cstring", "no zero; bytes", |n| {
         let file = vec![b'a'; n];

@@ -8,8 +8,11 @@ use published::io::ByteReader;
 
 use crate::case::{self, bytes_word, printed, replayed, said, table_word};
 use crate::case::{Compare, Difference, Refusal, Words};
-use crate::lent::{copied, first_wrong, lent};
+use crate::exact::UNMARKED;
+use crate::lent::{copied, first_wrong, lent, Number};
 use crate::meter;
+
+use super::numbers::all_exact;
 
 /// The four tables, and the words of their rows.
 pub const TABLES: [&str; 4] = ["strings", "scopes", "names", "callees"];
@@ -26,12 +29,49 @@ pub struct Case<'a> {
     pub tables: [&'a [u32]; 4],
 }
 
-/// The answer, the four counts, and every word lent afterwards.
+/// The answer, the four counts and the mark, and every word lent afterwards.
 #[derive(PartialEq, Eq)]
 pub struct Answer {
     pub code: u64,
     pub counts: [usize; 4],
+    pub mark: u32,
     pub tables: [Vec<u32>; 4],
+}
+
+impl Answer {
+    /// What it tells besides the tables.
+    fn told(&self) -> Told {
+        Told { code: self.code, counts: self.counts, mark: self.mark }
+    }
+}
+
+/// The answer, and what it leaves in the counts and in the mark.
+#[derive(Clone, Copy, PartialEq, Eq, Debug)]
+pub struct Told {
+    pub code: u64,
+    pub counts: [usize; 4],
+    pub mark: u32,
+}
+
+impl Told {
+    /// A refusal, which leaves the numbers.
+    pub fn refused(refusal: Refusal) -> Told {
+        Told { code: case::code(Err(refusal)), counts: [LENT; 4], mark: UNMARKED }
+    }
+
+    /// In words.
+    pub fn words(&self) -> String {
+        let mut words = said(self.code, "");
+        if self.counts != [LENT; 4] {
+            words += &format!(", counts {:?}", self.counts);
+        }
+        match self.mark {
+            UNMARKED => words,
+            0 => words + ", bits lost",
+            1 => words + ", exact",
+            mark => words + &format!(", marked {mark}"),
+        }
+    }
 }
 
 /// What the counts hold before a call, so that a refused one can be seen to have left them.
@@ -40,15 +80,22 @@ pub const LENT: usize = 0xA5A5_A5A5_A5A5_A5A5;
 /// A table as it is lent: where it is, and its words.
 pub type Table = (*mut u32, usize);
 
-/// The call itself: its answer, and what it leaves in the counts.
-pub fn make(file: &[u8], offset: u32, tables: [Table; 4]) -> (u64, [usize; 4]) {
+/// The call itself; an error where a number was written beside a lent one.
+pub fn make(file: &[u8], offset: u32, tables: [Table; 4]) -> Result<Told, String> {
     let [(a, a_len), (b, b_len), (c, c_len), (d, d_len)] = tables;
-    let (s, len, mut counts) = (file.as_ptr(), file.len(), [LENT; 4]);
-    let [w, x, y, z] = &mut counts;
+    let (s, len) = (file.as_ptr(), file.len());
+    let (mut counts, mut mark) =
+        ([0; 4].map(|_| Number::new(LENT, LENT)), Number::new(UNMARKED, UNMARKED));
+    let ([w, x, y, z], exact) = (counts.each_mut().map(Number::lent), mark.lent());
     let code = meter::call(|| unsafe {
-        hbc_read_debug(s, len, offset, a, a_len, b, b_len, c, c_len, d, d_len, w, x, y, z)
+        hbc_read_debug(s, len, offset, a, a_len, b, b_len, c, c_len, d, d_len, w, x, y, z, exact)
     });
-    (code, counts)
+    let mark = mark.held()?;
+    let mut told = Told { code, counts: [0; 4], mark };
+    for (told, count) in told.counts.iter_mut().zip(&counts) {
+        *told = count.held()?;
+    }
+    Ok(told)
 }
 
 /// What a section holds, in rows: the words of each table.
@@ -200,8 +247,8 @@ pub fn check(case: &Case, rows: &Result<Rows, Refusal>) -> Result<(), String> {
 
 /// What is right of the lent words.
 pub fn expected(case: &Case, rows: &Result<Rows, Refusal>) -> Answer {
-    let mut answer =
-        Answer { code: 0, counts: [LENT; 4], tables: case.tables.map(<[u32]>::to_vec) };
+    let tables = case.tables.map(<[u32]>::to_vec);
+    let mut answer = Answer { code: 0, counts: [LENT; 4], mark: UNMARKED, tables };
     let short = |rows: &&Rows| (0..4).any(|i| case.tables[i].len() < rows.tables[i].len());
     match rows {
         Err(refusal) => answer.code = case::code(Err(*refusal)),
@@ -211,6 +258,7 @@ pub fn expected(case: &Case, rows: &Result<Rows, Refusal>) -> Answer {
                 answer.counts[i] = rows.len() / ROWS[i];
                 answer.tables[i][..rows.len()].copy_from_slice(rows);
             }
+            answer.mark = all_exact(case.file, case.offset).into();
         }
     }
     answer
@@ -223,8 +271,8 @@ impl Compare for Case<'_> {
     fn ours(&self) -> Result<Answer, String> {
         let mut tables = self.tables.map(copied);
         let lent = std::array::from_fn(|i| (tables[i].as_mut_ptr(), self.tables[i].len()));
-        let (code, counts) = make(self.file, self.offset, lent);
-        Ok(Answer { code, counts, tables })
+        let Told { code, counts, mark } = make(self.file, self.offset, lent)?;
+        Ok(Answer { code, counts, mark, tables })
     }
 
     fn right(&self, _: Option<&Answer>) -> (Answer, ()) {
@@ -254,10 +302,7 @@ impl Compare for Case<'_> {
     }
 
     fn said(&self, answer: &Answer, right: Option<&Answer>) -> String {
-        let mut words = said(answer.code, "");
-        if answer.counts != [LENT; 4] {
-            words += &format!(", counts {:?}", answer.counts);
-        }
+        let mut words = answer.told().words();
         for (i, name) in TABLES.iter().enumerate() {
             let right = right.map(|right| &right.tables[i]);
             words += &first_wrong(name, &answer.tables[i], right, ROWS[i]);

@@ -92,7 +92,13 @@ fn callees(run: &mut Run) -> Compared {
             .rust(rust(&file).textified_callees.len(), 0)?
             .ours((ours.code, ours.counts), (0, [1, 0, 0, 0]))?;
     }
-    Ok(())
+    // That name counts for no mark.
+    let lost = [&[2][..], &[0x80; 10], &[0x80; 9], &[2]].concat();
+    let file = file(&[], &lost, &[0]);
+    let ours = ours(&file)?;
+    row(run, "a name that lost bits behind an address that fails")
+        .rust(rust(&file).textified_callees.len(), 0)?
+        .ours((ours.code, ours.counts, ours.mark), (0, [1, 0, 0, 0], 1))
 }
 
 /// Flags of ten bytes that DWARF reads as 2^64, and as -2^69.
@@ -103,7 +109,7 @@ fn lost_bits(run: &mut Run) -> Compared {
         let ours = ours(&file)?;
         row(run, "flags of ten bytes whose last has lost bits")
             .rust(rust(&file).scope_descriptors[0].flags, 0)?
-            .ours((ours.counts[1], ours.tables[1][2]), (1, 0))?;
+            .ours((ours.counts[1], ours.tables[1][2], ours.mark), (1, 0, 0))?;
     }
     Ok(())
 }

@@ -1,5 +1,6 @@
 //! The groups of inputs on which the two sides of the debug section are compared.
 
+pub mod exact;
 mod large;
 mod lists;
 
@@ -26,14 +27,16 @@ pub fn compare(run: &mut Run) -> Compared {
     run.group("prefixes of 1 to 11 bytes, text behind", lists::prefixes)?;
     run.group("offsets of parts in any order", lists::offsets)?;
     run.group("all the shortest parts", lists::shortest)?;
+    exact::compare(run)?;
     run.group("many rows", large::many)?;
     run.group("2^30 and 2^30 + 1 bytes", longest)?;
     run.group("the differences that docs list", differences::listed)?;
     run.group("random", |run| {
-        let mut random = run.random(9);
+        let (mut random, mut marks) = (run.random(9), run.random(26));
         let lent = plenty(&mut random);
         while run.more() {
             any(run, &mut random, &lent)?;
+            exact::any(run, &mut marks, &lent)?;
         }
         Ok(())
     })

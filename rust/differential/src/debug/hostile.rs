@@ -5,9 +5,10 @@ mod callees;
 use bisquepond::sys::LIMIT;
 use harness::Random;
 
-use super::case::{make, Table, LENT, NONE, ROWS};
+use super::case::{make, Table, Told, NONE, ROWS};
 use super::groups::case;
-use crate::case::{code, said, Compare, Compared, Difference};
+use crate::case::{Compare, Compared, Difference};
+use crate::exact::{lost, Kind};
 use crate::hostile::{file_of, rows_are, size, Soak};
 use crate::inputs::{any_words, fill, mixed, ten};
 use crate::lent::Reserved;
@@ -18,46 +19,67 @@ const OFFSET: usize = 1;
 /// A scope whose only name is refused, ten bytes on.
 const CUT: [u8; 13] = [0x7F, 0, 1, 255, 255, 255, 255, 255, 255, 255, 255, 255, 255];
 
-/// A part that is one piece again and again: its table, and the words of row `i` where the part begins at a byte.
+/// A part that is one piece again and again: its table, whether its numbers are exact, and the words of row `i` where the
+/// part begins at a byte.
 struct Part {
     name: &'static str,
     piece: &'static [u8],
     table: usize,
+    exact: bool,
     row: fn(usize, u32) -> [u32; 5],
 }
 
 const STRINGS: usize = 0;
 const SCOPES: usize = 1;
 
-const PARTS: [Part; 5] = [
+const PARTS: [Part; 7] = [
     Part {
         name: "strings of no bytes",
         piece: &[0],
         table: STRINGS,
+        exact: true,
         row: |begin, i| [begin as u32 + i + 1, 0, 0, 0, 0],
     },
     Part {
         name: "strings of no bytes, ten-byte prefixes",
         piece: &[0x80, 0x80, 0x80, 0x80, 0x80, 0x80, 0x80, 0x80, 0x80, 0],
         table: STRINGS,
+        exact: true,
+        row: |begin, i| [begin as u32 + 10 * i + 10, 0, 0, 0, 0],
+    },
+    Part {
+        name: "strings of no bytes, prefixes that lost bits",
+        piece: &[0x80, 0x80, 0x80, 0x80, 0x80, 0x80, 0x80, 0x80, 0x80, 2],
+        table: STRINGS,
+        exact: false,
         row: |begin, i| [begin as u32 + 10 * i + 10, 0, 0, 0, 0],
     },
     Part {
         name: "scopes of no names",
         piece: &[0x7F, 0, 0],
         table: SCOPES,
+        exact: true,
         row: |_, i| [3 * i, NONE, 0, 0, 0],
     },
     Part {
         name: "scopes of no names, ten-byte numbers",
         piece: &[0x80, 0x80, 0x80, 0x80, 0x80, 0x80, 0x80, 0x80, 0x80, 0],
         table: SCOPES,
+        exact: true,
+        row: |_, i| [30 * i, 0, 0, 0, 0],
+    },
+    Part {
+        name: "scopes of no names, numbers that lost bits",
+        piece: &[0x80, 0x80, 0x80, 0x80, 0x80, 0x80, 0x80, 0x80, 0x80, 0x40],
+        table: SCOPES,
+        exact: false,
         row: |_, i| [30 * i, 0, 0, 0, 0],
     },
     Part {
         name: "scopes whose names are cut",
         piece: &CUT,
         table: SCOPES,
+        exact: true,
         row: |_, i| [13 * i, NONE, 0, 0, 0],
     },
 ];
@@ -68,6 +90,7 @@ pub fn soak(soak: &mut Soak) -> Compared {
         part.compared(soak)?;
         part.one_short(soak)?;
         part.accepted(soak)?;
+        part.last_lost(soak)?;
     }
     claims(soak)?;
     let far = [0, 1, 28, LIMIT as u32, u32::MAX];
@@ -117,7 +140,7 @@ impl Part {
             let (_, count) = self.make(file, LIMIT);
             let table = Reserved::new(count * ROWS[self.table] - 1).expect("addresses");
             let answer = self.call(file, table.as_mut_ptr(), table.len());
-            same(answer, (code(Err((4, 0))), [LENT; 4]))
+            same(answer?, Told::refused((4, 0)))
         })
     }
 
@@ -133,12 +156,32 @@ impl Part {
             rows_are(&table, width, |i, row| *row == (self.row)(begin, i as u32)[..width])?;
             let mut counts = [0; 4];
             counts[self.table] = count;
-            same(answer, (0, counts))
+            same(answer?, Told { code: 0, counts, mark: self.exact.into() })
+        })
+    }
+
+    /// The last number alone has lost bits, in 2^30 bytes: the rows are the same, and not exact.
+    fn last_lost(&self, soak: &mut Soak) -> Compared {
+        if !self.exact || self.piece.len() != 10 {
+            return Ok(());
+        }
+        let width = ROWS[self.table];
+        let words = LIMIT / self.entry() * width;
+        let name = format!("{}, 2^30 bytes, the last lost bits", self.name);
+        soak.case(&name, file_of(LIMIT + 4 * words), |file| {
+            let (begin, count) = self.make(file, LIMIT);
+            file[begin + count * self.entry() - 1] = 0x7E;
+            let mut table = vec![7; count * width];
+            let answer = self.call(file, table.as_mut_ptr(), table.len());
+            rows_are(&table, width, |i, row| *row == (self.row)(begin, i as u32)[..width])?;
+            let mut counts = [0; 4];
+            counts[self.table] = count;
+            same(answer?, Told { code: 0, counts, mark: 0 })
         })
     }
 
     /// The call with the one table that has words, among others that have none.
-    fn call(&self, file: &[u8], words: *mut u32, len: usize) -> (u64, [usize; 4]) {
+    fn call(&self, file: &[u8], words: *mut u32, len: usize) -> Result<Told, String> {
         let mut tables = NO_WORDS;
         tables[self.table] = (words, len);
         make(file, OFFSET as u32, tables)
@@ -155,15 +198,11 @@ fn header(file: &mut [u8], begin: usize, [scopes, callees, strings]: [u32; 3], s
     file[OFFSET..OFFSET + 28].copy_from_slice(words.as_flattened());
 }
 
-/// The answer and the counts that were worked out beside.
-fn same(given: (u64, [usize; 4]), right: (u64, [usize; 4])) -> Result<String, Difference> {
-    let words = |(code, counts): (u64, [usize; 4])| match counts {
-        [LENT, ..] => said(code, ""),
-        _ => format!("{}, counts {counts:?}", said(code, "")),
-    };
+/// The answer, the counts and the mark that were worked out beside.
+fn same(given: Told, right: Told) -> Result<String, Difference> {
     match given == right {
-        true => Ok(words(given)),
-        false => Err(format!("{}, not {}", words(given), words(right)).into()),
+        true => Ok(given.words()),
+        false => Err(format!("{}, not {}", given.words(), right.words()).into()),
     }
 }
 
@@ -219,8 +258,9 @@ fn claims(soak: &mut Soak) -> Compared {
 
 /// Parts of hostile pieces in any order, between any three offsets.
 fn any(random: &mut Random, far: &[u32]) -> Compared {
-    let pieces: [&[u8]; 8] =
-        [&[0], &CUT, &ten(0), &ten(1), &ten(u64::MAX), &[0xFF; 11], &[0, 0, 2], &[1]];
+    let lost = lost(Kind::Signed, random.below(3) as i64, random.byte());
+    let pieces: [&[u8]; 9] =
+        [&[0], &CUT, &ten(0), &ten(1), &ten(u64::MAX), &[0xFF; 11], &[0, 0, 2], &[1], &lost];
     let len = 100 + random.below(3000);
     let mut file = mixed(random, &pieces, len);
     let size = (file.len() - 60) as u32;

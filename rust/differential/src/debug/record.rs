@@ -3,11 +3,13 @@
 use harness::Random;
 
 use super::case::{check, expected, rows, Case, ROWS};
+use super::groups::exact::{unread_parts, PLACES};
 use super::groups::{good, Section};
+use crate::exact::{lost, Kind, UNMARKED};
 use crate::inputs::{any_bytes, sleb};
 use crate::record::{Record, Sample, FILL, READ_DEBUG};
 
-const NAMES: [&str; 7] = [
+const NAMES: [&str; 9] = [
     "read_debug, offsets and headers",
     "read_debug, strings",
     "read_debug, scopes",
@@ -15,6 +17,8 @@ const NAMES: [&str; 7] = [
     "read_debug, cut and damaged",
     "read_debug, tables lent",
     "read_debug, any",
+    "read_debug, bits lost",
+    "read_debug, bytes that are no number",
 ];
 
 /// The words for which the program has room, besides a row that is not lent.
@@ -44,7 +48,9 @@ fn lent(sample: &mut Sample, group: usize, file: &[u8], offset: u32, words: [usi
     let answer = [&[right.code], &counts.map(|count| count as u64)[..]].concat();
     let record = Record::new(READ_DEBUG, &lent, &[offset], file).answer(&answer);
     let record = right.tables.iter().fold(record, |record, table| record.table(table));
-    sample.add(group, number, record);
+    // The mark is a table of one word, which stays as it was where the call is refused.
+    assert_eq!(UNMARKED, FILL);
+    sample.add(group, number, record.table(&[right.mark]));
 }
 
 /// With just the words that the rows need, and up to two more.
@@ -82,7 +88,8 @@ pub fn write(mut random: Random) -> (Vec<u8>, Vec<String>) {
     callees(&mut sample, &mut random);
     damaged(&mut sample, &mut random);
     tables(&mut sample, &mut random);
-    while sample.fewer(590) {
+    bits_lost(&mut sample, &mut random);
+    while sample.fewer(760) {
         any(&mut sample, &mut random);
     }
     sample.done(answers)
@@ -231,6 +238,23 @@ fn tables(sample: &mut Sample, random: &mut Random) {
     {
         lent(sample, 5, file, offset, [0; 4]);
     }
+}
+
+/// One number that lost bits at each place that the comparison has, and such bytes where no number is read; the mark is
+/// told in both, or is refused with a table that is a row short.
+fn bits_lost(sample: &mut Sample, random: &mut Random) {
+    for place in PLACES {
+        let number = lost(place.kind(), place.value, random.byte());
+        let [scopes, callees, strings] = place.parts(&number);
+        on_parts(sample, 7, &scopes, &callees, &strings);
+    }
+    let number = lost(Kind::Signed, 0, random.byte());
+    for [scopes, callees, strings] in unread_parts(&number) {
+        on_parts(sample, 8, &scopes, &callees, &strings);
+    }
+    let (file, offset) = parts(&[], &[], &number);
+    add(sample, 8, &file, 0);
+    lent(sample, 5, &file, offset, [1, 0, 0, 0]);
 }
 
 /// A good section with some of its numbers put in another way, then damaged or cut.

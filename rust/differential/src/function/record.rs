@@ -10,7 +10,9 @@ use super::groups::{any_table, edited, Table};
 use crate::case::code;
 use crate::inputs::any_bytes;
 use crate::record::{Record, Sample, FILL};
-use crate::record::{FUNCTION_GROUND, FUNCTION_MEETS, READ_FUNCTION, READ_FUNCTIONS, REFRESH_FUNCTIONS};
+use crate::record::{
+    FUNCTION_GROUND, FUNCTION_MEETS, READ_FUNCTION, READ_FUNCTIONS, REFRESH_FUNCTIONS,
+};
 
 const NAMES: [&str; 12] = [
     "read_functions legacy16",
@@ -65,7 +67,9 @@ fn add(sample: &mut Sample, case: Case) {
     // Whether a span is met, and where a function is read from, are told, not written.
     let record = match case.op {
         Meets => record.answer(&[told, 0]),
-        Ground if answer.is_ok() => record.answer(&[told, joined(&table[..2]) as u64, joined(&table[2..]) as u64]),
+        Ground if answer.is_ok() => {
+            record.answer(&[told, joined(&table[..2]) as u64, joined(&table[2..]) as u64])
+        }
         Ground => record.answer(&[told, 0, 0]),
         _ => record.answer(&[told, 0]).table(&table),
     };

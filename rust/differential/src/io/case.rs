@@ -6,6 +6,8 @@ use published::io::ByteReader;
 
 use crate::case::{bytes_word, float_bits, printed, replayed};
 use crate::case::{Compare, Difference, Words};
+use crate::exact::{self, Kind, UNMARKED};
+use crate::lent::Number;
 use crate::meter;
 
 /// The calls, in the order of their numbers in a recorded sample.
@@ -61,12 +63,14 @@ pub fn case(op: Op, input: &[u8], at: usize, argument: usize) -> Case<'_> {
     Case { op, input, at, argument }
 }
 
-/// What a call gave. The value of a number is its 64 bits, of a span its start and length, of a move nothing.
+/// What a call gave. The value of a number is its 64 bits, of a span its start and length, of a move nothing. The mark is
+/// 1 where a LEB128 number is exact and 0 where it is not, else as it was lent.
 #[derive(Clone, Copy, PartialEq, Eq, Debug)]
 pub struct Answer {
     pub number: u32,
     pub at: usize,
     pub value: [u64; 2],
+    pub mark: u32,
 }
 
 /// What the lent places hold before a call, so that a refused one can be seen to have left them.
@@ -109,8 +113,25 @@ pub fn rust(case: &Case) -> (Answer, Option<String>) {
         }),
     };
     let number = refusal(case.op, &value);
-    let answer = Answer { number, at: reader.position(), value: value.unwrap_or_default() };
-    (answer, text)
+    let (at, value) = (reader.position(), value.unwrap_or_default());
+    let mark = if number == 0 { mark(case, at, value) } else { UNMARKED };
+    (Answer { number, at, value, mark }, text)
+}
+
+/// The mark of a call that was accepted, by a second implementation: the Rust has none. The bytes of the number are those
+/// up to the Rust's cursor, or to the part that it read; of a number the Rust's value must be what 64 bits hold of it.
+fn mark(case: &Case, at: usize, value: [u64; 2]) -> u32 {
+    let (kind, end) = match case.op {
+        Uleb128 => (Kind::Unsigned, at),
+        Sleb128 => (Kind::Signed, at),
+        LengthPrefixedString => (Kind::Unsigned, value[0] as usize),
+        _ => return UNMARKED,
+    };
+    let bytes = &case.input[case.at..end];
+    let held = exact::held(kind, exact::number(kind, bytes)) as u64;
+    let read = if case.op == LengthPrefixedString { value[1] } else { value[0] };
+    assert_eq!(held, read, "the comparison itself is wrong: {}", case.call());
+    exact::exact(kind, bytes).into()
 }
 
 /// The refusal number of docs/FORMAT.md, section 1.1, for an error text of io.rs.
@@ -147,7 +168,8 @@ fn document(case: &Case) -> Option<Answer> {
         Seek if case.argument <= len => 0,
         _ => 2,
     };
-    Some(Answer { number, at: if number == 0 { case.argument } else { case.at }, value: [0, 0] })
+    let at = if number == 0 { case.argument } else { case.at };
+    Some(Answer { number, at, value: [0, 0], mark: UNMARKED })
 }
 
 impl Compare for Case<'_> {
@@ -157,31 +179,40 @@ impl Compare for Case<'_> {
 
     fn ours(&self) -> Result<Answer, String> {
         let (s, len) = (self.input.as_ptr(), self.input.len());
-        let mut at = self.at;
-        let (mut start, mut span_len) = (LENT as usize, LENT as usize);
+        let of = |before| Number::new(before, LENT as usize);
+        let (mut at, mut mark) = (of(self.at), Number::new(UNMARKED, UNMARKED));
+        let (mut start, mut span_len) = (of(LENT as usize), of(LENT as usize));
         let mut spanned = false;
 
-        // A call that reads one number of type $t: its answer, whether the lent place is as before, and what the
-        // comparison takes for the value.
+        // A call that reads one number, and may tell a mark: its answer, whether the lent place is as before, and what
+        // the comparison takes for the value.
         macro_rules! read {
-            ($call:ident, $lent:expr, $bits:expr) => {{
-                let mut value = $lent;
-                let code = meter::call(|| unsafe { $call(s, len, &mut at, &mut value) });
-                let kept = value.to_le_bytes() == $lent.to_le_bytes();
-                (code, kept, $bits(value))
+            ($call:ident, $lent:expr, $bits:expr $(, $mark:expr)?) => {{
+                let mut value = Number::new($lent, $lent);
+                let (at, lent) = (at.lent(), value.lent());
+                let code = meter::call(|| unsafe { $call(s, len, at, lent $(, $mark)?) });
+                let value = value.held()?;
+                (code, value.to_le_bytes() == $lent.to_le_bytes(), $bits(value))
             }};
         }
-        // A call that moves the cursor, or reads a part.
+        // A call that reads a part.
         macro_rules! span {
-            ($call:ident $(, $argument:expr)?) => {{
+            ([$($argument:expr)?], $call:ident $(, $mark:expr)?) => {{
                 spanned = true;
-                let (start, size) = (&mut start, &mut span_len);
-                let code =
-                    meter::call(|| unsafe { $call(s, len, &mut at $(, $argument)?, start, size) });
-                (code, [*start, *size] == [LENT as usize; 2], 0)
+                let (at, from, size) = (at.lent(), start.lent(), span_len.lent());
+                let code = meter::call(|| unsafe {
+                    $call(s, len, at, $($argument,)? from, size $(, $mark)?)
+                });
+                (code, [start.held()?, span_len.held()?] == [LENT as usize; 2], 0)
             }};
         }
-        let to = self.argument;
+        // A call that moves the cursor.
+        macro_rules! moved {
+            ($call:ident) => {{
+                let at = at.lent();
+                (meter::call(|| unsafe { $call(s, len, at, self.argument) }), true, 0)
+            }};
+        }
         let (code, kept, bits) = match self.op {
             U8 => read!(hbc_read_u8, LENT as u8, |v| v as u64),
             I8 => read!(hbc_read_i8, LENT as i8, |v| v as u64),
@@ -190,21 +221,15 @@ impl Compare for Case<'_> {
             U64 => read!(hbc_read_u64, LENT, |v| v),
             I32 => read!(hbc_read_i32, LENT as i32, |v| v as u64),
             F64 => read!(hbc_read_f64, f64::from_bits(LENT), float_bits),
-            Uleb128 => read!(hbc_read_uleb128, LENT, |v| v),
-            Sleb128 => read!(hbc_read_sleb128, LENT as i64, |v| v as u64),
-            Cstring => span!(hbc_read_cstring),
-            LengthPrefixedString => span!(hbc_read_length_prefixed_string),
-            Bytes => span!(hbc_read_bytes, to),
-            Seek => {
-                let code = meter::call(|| unsafe { hbc_seek(s, len, &mut at, to) });
-                (code, true, 0)
-            }
-            Align => {
-                let code = meter::call(|| unsafe { hbc_align(s, len, &mut at, to) });
-                (code, true, 0)
-            }
+            Uleb128 => read!(hbc_read_uleb128, LENT, |v| v, mark.lent()),
+            Sleb128 => read!(hbc_read_sleb128, LENT as i64, |v| v as u64, mark.lent()),
+            Cstring => span!([], hbc_read_cstring),
+            LengthPrefixedString => span!([], hbc_read_length_prefixed_string, mark.lent()),
+            Bytes => span!([self.argument], hbc_read_bytes),
+            Seek => moved!(hbc_seek),
+            Align => moved!(hbc_align),
         };
-        let number = number(code);
+        let (number, at, mark) = (number(code), at.held()?, mark.held()?);
         if place(code) != 0 {
             return Err(format!("place {} in answer {code:#x}", place(code)));
         }
@@ -212,11 +237,11 @@ impl Compare for Case<'_> {
             return Err(format!("refused {number}, but a lent value was written"));
         }
         let value = match (number, spanned) {
-            (0, true) => [start as u64, span_len as u64],
+            (0, true) => [start.held()? as u64, span_len.held()? as u64],
             (0, false) => [bits, 0],
             _ => [0, 0],
         };
-        Ok(Answer { number, at, value })
+        Ok(Answer { number, at, value, mark })
     }
 
     fn right(&self, _: Option<&Answer>) -> (Answer, Option<String>) {
@@ -250,7 +275,13 @@ impl Compare for Case<'_> {
     fn said(&self, answer: &Answer, _: Option<&Answer>) -> String {
         let at = answer.at;
         let [first, second] = answer.value;
-        match (answer.number, self.op) {
+        let mark = match answer.mark {
+            UNMARKED => String::new(),
+            0 => ", bits lost".to_string(),
+            1 => ", exact".to_string(),
+            mark => format!(", marked {mark}"),
+        };
+        let words = match (answer.number, self.op) {
             (0, Seek | Align) => format!("accepted, cursor {at}"),
             (0, Bytes | Cstring | LengthPrefixedString) => {
                 format!("accepted, {second} bytes from {first}, cursor {at}")
@@ -259,7 +290,8 @@ impl Compare for Case<'_> {
             (0, F64) => format!("accepted, float bits {first:016x}, cursor {at}"),
             (0, _) => format!("accepted, value {first}, cursor {at}"),
             (number, _) => format!("refused {number}, cursor {at}"),
-        }
+        };
+        words + &mark
     }
 
     fn replay(&self) -> Option<String> {

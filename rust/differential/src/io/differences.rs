@@ -1,6 +1,6 @@
 //! The differences of the cursor layer.
 
-use bisquepond::io::ByteReader as Ours;
+use bisquepond::io::{ByteReader as Ours, Marked};
 use bisquepond::sys::LIMIT;
 use bisquepond::Refusal;
 use published::error::Result as Published;
@@ -86,17 +86,28 @@ fn texts(run: &mut Run) -> Compared {
     Ok(())
 }
 
-/// Both sides alike, and neither as DWARF 5.
+/// Values and cursors of both sides alike, and neither as DWARF 5; ours says so.
 fn leb128(run: &mut Run) -> Compared {
     let nine = |last| [&[0x80; 9][..], &[last]].concat();
     let unsigned = nine(2);
+    let lost = |value| Ok(Marked { value, exact: false });
     row(run, "nine 80, then 02, unsigned")
         .rust(rust(&unsigned, |r| r.read_uleb128()), (Ok(0), 10))?
-        .ours(ours(&unsigned, 0, |r| r.read_uleb128()), (Ok(0), 10))?;
+        .ours(ours(&unsigned, 0, |r| r.read_uleb128_marked()), (lost(0), 10))?;
     let signed = nine(0x40);
     row(run, "nine 80, then 40, signed")
         .rust(rust(&signed, |r| r.read_sleb128()), (Ok(0), 10))?
-        .ours(ours(&signed, 0, |r| r.read_sleb128()), (Ok(0), 10))?;
+        .ours(
+            ours(&signed, 0, |r| r.read_sleb128_marked()),
+            (Ok(Marked { value: 0, exact: false }), 10),
+        )?;
+    let text = [&unsigned[..], b"hi"].concat();
+    row(run, "nine 80, then 02, as the length of a string")
+        .rust(rust(&text, |r| r.read_length_prefixed_string()), (Ok(String::new()), 10))?
+        .ours(
+            ours(&text, 0, |r| r.read_length_prefixed_string_marked()),
+            (Ok(Marked { value: &[][..], exact: false }), 10),
+        )?;
     let eleven = [&[0x80; 10][..], &[0]].concat();
     row(run, "ten 80, then 00, unsigned")
         .rust(rust(&eleven, |r| r.read_uleb128()), (Err("LEB128 overflow".into()), 10))?

@@ -1,5 +1,7 @@
 //! The groups of inputs on which the two sides of the cursor layer are compared.
 
+mod exact;
+
 use bisquepond::sys::{hbc_bits, hbc_remaining, LIMIT};
 use harness::Random;
 use published::io::ByteReader;
@@ -19,6 +21,7 @@ pub fn compare(run: &mut Run) -> Compared {
         run.group(&name, |run| short(run, op))?;
     }
     run.group("LEB128 and prefixes of 1 to 12 bytes", long_leb128)?;
+    exact::compare(run)?;
     run.group("plain reads, every cursor", plain)?;
     run.group("f64, every kind of float", floats)?;
     run.group("Bytes, every cursor", spans)?;

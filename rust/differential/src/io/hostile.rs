@@ -14,6 +14,10 @@ const FAR: [usize; 6] = [0, 1, LIMIT, u32::MAX as usize, 1 << 63, usize::MAX];
 /// The calls that read LEB128.
 const LEB128: [Op; 3] = [Op::Uleb128, Op::Sleb128, Op::LengthPrefixedString];
 
+/// 2^64, and the number of which a signed reader keeps 0 and loses 2^69: both with low bits that are 0.
+const LOST: [u8; 10] = [0x80, 0x80, 0x80, 0x80, 0x80, 0x80, 0x80, 0x80, 0x80, 2];
+const BELOW: [u8; 10] = [0x80, 0x80, 0x80, 0x80, 0x80, 0x80, 0x80, 0x80, 0x80, 0x40];
+
 pub fn soak(soak: &mut Soak) -> Compared {
     for (name, len) in [
         ("every call, far numbers, 2^30 bytes", LIMIT),
@@ -24,11 +28,14 @@ pub fn soak(soak: &mut Soak) -> Compared {
             far_numbers(file)
         })?;
     }
-    for (name, number) in
-        [("ten-byte LEB128 everywhere, 0", 0), ("ten-byte LEB128 everywhere, 2^64 - 1", u64::MAX)]
-    {
+    for (name, number) in [
+        ("ten-byte LEB128 everywhere, 0", ten(0)),
+        ("ten-byte LEB128 everywhere, 2^64 - 1", ten(u64::MAX)),
+        ("ten-byte LEB128 everywhere, bits lost", LOST),
+        ("ten-byte LEB128 everywhere, bits lost of a signed one", BELOW),
+    ] {
         soak.case(name, file_of(1 << 24), |file| {
-            fill(file, 1 << 24, &ten(number));
+            fill(file, 1 << 24, &number);
             walk(file, (0..file.len()).step_by(10))
         })?;
     }
@@ -97,7 +104,8 @@ fn longest_texts(soak: &mut Soak) -> Compared {
 
 /// Numbers of one to eleven bytes in any order, read from any place.
 fn any(random: &mut Random) -> Compared {
-    let pieces: [&[u8]; 6] = [&ten(0), &ten(u64::MAX), &[0xFF; 11], &[0x80], &[0], &ten(9)];
+    let pieces: [&[u8]; 8] =
+        [&ten(0), &ten(u64::MAX), &[0xFF; 11], &[0x80], &[0], &ten(9), &LOST, &BELOW];
     let len = 1 + random.below(1 << 12);
     let file = mixed(random, &pieces, len);
     for op in OPS {

@@ -6,9 +6,10 @@ use super::case::Op::*;
 use super::case::{rust, Answer, Case, Op, OPS, PLAIN};
 use super::groups::any_byte;
 use crate::case::code;
+use crate::exact::{lost, Kind, UNMARKED};
 use crate::record::{Record, Sample, IO};
 
-const NAMES: [&str; 16] = [
+const NAMES: [&str; 19] = [
     "DWARF 5, section 7.6, unsigned",
     "DWARF 5, section 7.6, signed",
     "read_u8",
@@ -25,10 +26,17 @@ const NAMES: [&str; 16] = [
     "read_bytes",
     "seek",
     "align",
+    "read_uleb128, bits lost",
+    "read_sleb128, bits lost",
+    "read_length_prefixed_string, bits lost",
 ];
 
-/// The group of the first call.
+/// The group of the first call, and of the first whose number lost bits.
 const CALLS: usize = 2;
+const LOST: usize = 16;
+
+/// What stands in a record for a mark that is not written.
+const NO_MARK: u64 = 2;
 
 /// The worked examples of DWARF 5, section 7.6.
 const UNSIGNED: [(u64, &[u8]); 6] = [
@@ -52,10 +60,11 @@ const SIGNED: [(i64, &[u8]); 8] = [
 
 /// Every refusal number that the Rust can show, group by group; 0 is accepted.
 fn answers(group: usize) -> &'static [u32] {
-    let Some(call) = group.checked_sub(CALLS) else {
+    let call = group.checked_sub(CALLS).and_then(|call| OPS.get(call));
+    let Some(call) = call else {
         return &[0];
     };
-    match OPS[call] {
+    match call {
         Uleb128 | Sleb128 | LengthPrefixedString => &[0, 3, 5],
         Cstring => &[0, 9],
         Seek => &[0, 2],
@@ -93,7 +102,13 @@ fn added(
         _ => (Record::new(call, &[at as u64, argument as u64], &[], input), [first, second]),
     };
     let code = code(if answer.number == 0 { Ok(0) } else { Err((answer.number, 0)) });
-    let record = record.answer(&[code, answer.at as u64, value[0], value[1]]);
+    let mark = if answer.mark == UNMARKED { NO_MARK } else { answer.mark.into() };
+    let numbers = [code, answer.at as u64, value[0], value[1], mark];
+    let record = match op {
+        Cstring | LengthPrefixedString | Bytes | Seek | Align => record.answer(&numbers),
+        // A number has no second one.
+        _ => record.answer(&[numbers[0], numbers[1], numbers[2], mark]),
+    };
     sample.add(group, answer.number, record);
     answer
 }
@@ -111,7 +126,8 @@ pub fn write(mut random: Random) -> (Vec<u8>, Vec<String>) {
     edges(&mut sample);
     floats(&mut sample);
     leb128(&mut sample, &mut random);
-    while sample.fewer(2_000) {
+    bits_lost(&mut sample, &mut random);
+    while sample.fewer(2_200) {
         for op in OPS {
             any(&mut sample, &mut random, op);
         }
@@ -188,6 +204,25 @@ fn leb128(sample: &mut Sample, random: &mut Random) {
     add(sample, LengthPrefixedString, &most, 0, 0);
     let wide = [0x80, 0x80, 0x80, 0x80, 0x10, 0x61];
     add(sample, LengthPrefixedString, &wide, 0, 0);
+}
+
+/// Numbers with every second tenth byte, and prefixes that name text behind them.
+fn bits_lost(sample: &mut Sample, random: &mut Random) {
+    for form in 0..64 {
+        for (i, op) in [Uleb128, Sleb128, LengthPrefixedString].into_iter().enumerate() {
+            let kind = if op == Sleb128 { Kind::Signed } else { Kind::Unsigned };
+            let value = match op {
+                LengthPrefixedString => random.below(4) as i64,
+                _ => random.word() as i64 >> random.below(64),
+            };
+            let mut input: Vec<u8> = (0..random.below(3)).map(|_| random.byte()).collect();
+            let at = input.len();
+            input.extend(lost(kind, value, form));
+            input.extend((0..3).map(|_| random.byte()));
+            let answer = added(sample, LOST + i, op, &input, at, 0);
+            assert_eq!((answer.number, answer.mark), (0, 0));
+        }
+    }
 }
 
 fn any(sample: &mut Sample, random: &mut Random, op: Op) {

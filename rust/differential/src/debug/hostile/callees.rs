@@ -6,7 +6,8 @@ use harness::Random;
 
 use super::{compare, header, same, NO_WORDS, OFFSET};
 use crate::case::Compared;
-use crate::debug::case::make as call;
+use crate::debug::case::{make as call, Told};
+use crate::exact::with_tenth;
 use crate::hostile::{rows_are, size, Soak};
 use crate::inputs::ten;
 
@@ -48,6 +49,9 @@ pub fn soak(soak: &mut Soak) -> Compared {
                 compare(file, [2, 0, 0, 2 * entries])
             })?;
         }
+    }
+    for order in [ORDERS[0], ORDERS[1], ORDERS[4], ORDERS[6]] {
+        last_lost(soak, order)?;
     }
     falling(soak)
 }
@@ -97,7 +101,29 @@ fn worked_out(soak: &mut Soak, order: Order, power: u32, passes: usize) -> Compa
         let answer = call(file, OFFSET as u32, tables);
         let right = |i: usize| if expected == entries { i } else { 7 * (i + 1) };
         rows_are(&rows, 2, |i, row| row == [right(i) as u32, 0])?;
-        same(answer, (0, [1, 0, 0, expected]))
+        same(answer?, Told { code: 0, counts: [1, 0, 0, expected], mark: 1 })
+    })
+}
+
+/// Callees in an order, of which the last name alone has lost bits, however many passes there are.
+fn last_lost(soak: &mut Soak, order: Order) -> Compared {
+    let bytes = 1 << 22;
+    let mut random = soak.random(9);
+    let passes = bytes / 4 / KEPT + 1;
+    let name = format!("callees {}, 2^22 bytes, the last lost bits", order.0);
+    soak.case(&name, size(2 * bytes * passes, 60 * bytes), |file| {
+        let entries = make(file, bytes, order, &mut random);
+        // Before the string and its own last byte: the name in ten bytes, and the string again.
+        file.truncate(file.len() - 2);
+        file.extend(with_tenth(0, 0x7E));
+        file.push(0);
+        let size = (file.len() - BEGIN) as u32;
+        header(file, BEGIN, [0, 0, size - 1], size);
+        let words = compare(file, [2, 0, 0, 2 * entries])?;
+        match words.ends_with("bits lost") {
+            true => Ok(words),
+            false => Err(format!("{words}, though the last name lost bits").into()),
+        }
     })
 }
 
