@@ -1,7 +1,7 @@
 /* What include/hbc.h says besides its prototypes, as a caller meets it: names, what a refused call leaves, the two modes
- * of strings, which LEB128 numbers are exact, what a refused refresh asks for, what stands for no large header, what is
- * written and what is not. C99 and C++. Prints nothing; at the first test that fails its line, and then ends with
- * status 1. */
+ * of strings, a string's text, which LEB128 numbers are exact, what a refused refresh asks for, what stands for no large
+ * header, what is written and what is not. C99 and C++. Prints nothing; at the first test that fails its line, and then
+ * ends with status 1. */
 #include <stdio.h>
 #include <string.h>
 
@@ -103,6 +103,31 @@ static int modes(void)
     code = hbc_decode_strings_hermes(2, kinds, 3, small, 2, pairs, 3, bytes, (size_t)HBC_LIMIT + 1, rows, 7);
     CHECK(is(code, "TOO_LONG"));
     CHECK(memcmp(rows, hermes, sizeof rows) == 0);
+    return 0;
+}
+
+/* A string's text: the room that it needs, what stays behind it, what a refused call leaves, and rows of any numbers. */
+static int texts(void)
+{
+    /* h, a byte that is no UTF-8, i; then a pair of UTF-16 */
+    static const uint8_t bytes[] = {'h', 0xFF, 'i', 0x3D, 0xD8, 0x00, 0xDE};
+    const uint32_t rows[] = {0, 3, 0, HBC_MARK_IDENTIFIER, 3, 4, 0, HBC_MARK_UTF16 + 4, 3, 3, 0, HBC_MARK_UTF16,
+                             0, 3, 2, 0, 5, 3, 0, 0, 0xFFFFFFFFu, 2, 0, 0, 0};
+    const size_t words = sizeof rows / sizeof *rows;
+    uint8_t out[8], before[8];
+    memset(before, 0xA5, 8);
+    memset(out, 0xA5, 8);
+    CHECK(is(hbc_string_text(bytes, 7, rows, words, 0, out, 4), "TOO_FEW_ROWS") && memcmp(out, before, 8) == 0);
+    CHECK(hbc_string_text(bytes, 7, rows, words, 0, out, 5) == 5);
+    CHECK(memcmp(out, "h\xEF\xBF\xBDi\xA5\xA5\xA5", 8) == 0);
+    memset(out, 0xA5, 8);
+    CHECK(hbc_string_text(bytes, 7, rows, words, 1, out, 8) == 4 && memcmp(out, "\xF0\x9F\x98\x80\xA5", 5) == 0);
+    /* half a unit, marked invalid, past the storage's end, far past it: empty, in no room */
+    for (size_t i = 2; i < 6; i++)
+        CHECK(hbc_string_text(bytes, 7, rows, words, i, out, 0) == 0);
+    CHECK(is(hbc_string_text(bytes, 7, rows, words, 6, out, 0), "TOO_FEW_TO_READ"));
+    CHECK(is(hbc_string_text(bytes, 7, rows, words, SIZE_MAX / 2, out, 0), "TOO_FEW_TO_READ"));
+    CHECK(is(hbc_string_text(bytes, (size_t)HBC_LIMIT + 1, rows, words, 6, out, 0), "TOO_LONG"));
     return 0;
 }
 
@@ -290,4 +315,7 @@ static int version(void)
     return 0;
 }
 
-int main(void) { return refusals() || left() || modes() || marks() || refresh() || ground() || written() || version(); }
+int main(void)
+{
+    return refusals() || left() || modes() || texts() || marks() || refresh() || ground() || written() || version();
+}

@@ -1,4 +1,4 @@
-/* Reads a function table, changes a byte, brings the table up to date; then strings and literals. From the root:
+/* Reads a function table, changes a byte, brings the table up to date; then strings, texts and literals. From the root:
  * gcc -std=c99 -Wall -Wextra -pedantic -Iinclude examples/read.c "$(rust/archive)" -o read && ./read
  */
 #include <inttypes.h>
@@ -106,6 +106,21 @@ static int shared(void)
     return 0;
 }
 
+/* Texts are UTF-8, whatever the bytes are: UTF-16 is converted, and U+FFFD stands for what is ill-formed. */
+static int texts(void)
+{
+    static const uint8_t bytes[] = {'c', 'a', 'f', 0xC3, 0xA9, 'h', 0xFF, 'i', 0x3D, 0xD8, 0x00, 0xDE, '!', 0};
+    const uint32_t rows[] = {0, 5, 0, 0, 5, 3, 0, 0, 8, 6, 0, HBC_MARK_UTF16};
+    uint8_t out[15]; /* three bytes for each byte of the longest string of UTF-8 */
+    for (size_t i = 0; i < 3; i++) {
+        uint64_t code = hbc_string_text(bytes, sizeof bytes, rows, 3 * HBC_STRING_WORDS, i, out, sizeof out);
+        if (refused("text", code))
+            return 1;
+        printf("text %zu: %.*s, %" PRIu64 " bytes\n", i, (int)code, (const char *)out, code);
+    }
+    return !refused("text in 4 bytes", hbc_string_text(bytes, sizeof bytes, rows, 3 * HBC_STRING_WORDS, 0, out, 4));
+}
+
 static int literals(void)
 {
     static const uint8_t buffer[] = {0x72, 5, 0, 0, 0, 0xFF, 0xFF, 0xFF, 0xFF, 0x11}; /* two integers, then true */
@@ -126,5 +141,5 @@ static int literals(void)
 
 int main(void)
 {
-    return functions() || strings() || shared() || literals();
+    return functions() || strings() || shared() || texts() || literals();
 }

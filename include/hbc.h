@@ -6,7 +6,7 @@
  * - Bytes that are lent are a pointer and a count: `s`, `s_len`. The pointer must stand for that many bytes, and must
  *   not be NULL, not even where the count is 0. A table is lent in the same way, `table` and `table_len`; the count is
  *   one of words, not of rows or bytes. Where they are const they are only read: all bytes are but the `buffer` of
- *   hbc_write_functions.
+ *   hbc_write_functions and the `out` of hbc_string_text, which are buffers.
  * - A number that is lent (`size_t *at`, `uint32_t *value`, ..), and a table or a buffer that is not const, must not be
  *   NULL, and must not overlap the bytes or anything else that is lent.
  * - Tables and numbers are aligned as their type is: 4 bytes for uint32_t, 8 for uint64_t, size_t and double. Bytes may
@@ -17,7 +17,7 @@
  *   refusal's number times 2^32, plus its place. HBC_NUMBER and HBC_PLACE take it apart. The place is 0 unless it is
  *   named below.
  * - A value is written only where the call is accepted; a refused call leaves the lent values (`*start`, `*size` and
- *   `*exact` among them), every word of the lent tables and every byte of the buffer as they were, and the cursor too,
+ *   `*exact` among them), every word of the lent tables and every byte of a buffer as they were, and the cursor too,
  *   unless it says otherwise below.
  * - Every call ends, on every input, and never reads or writes outside what is lent.
  * - Nothing is allocated, and no call has data of its own: calls on different tables and numbers may run in parallel,
@@ -32,10 +32,10 @@
 
 /* What this header and its archive are: the two must be of one version, and no linker sees where they are not. Since
  * 0.2.0 hbc_read_uleb128, hbc_read_sleb128, hbc_read_length_prefixed_string and hbc_read_debug have one parameter more,
- * the last, `exact`. */
-#define HBC_VERSION "0.2.0"
+ * the last, `exact`; since 0.3.0 there is hbc_string_text. */
+#define HBC_VERSION "0.3.0"
 #define HBC_VERSION_MAJOR 0
-#define HBC_VERSION_MINOR 2
+#define HBC_VERSION_MINOR 3
 #define HBC_VERSION_PATCH 0
 
 /* The refusal's number in an answer, 0 if it was accepted; and its place. */
@@ -49,7 +49,7 @@
 #define HBC_REFUSED_PAST_END 2          /* the cursor or a start stands past the end; or a seek or align goes past it */
 #define HBC_REFUSED_SERIES_PAST_END 7   /* a series begins at or past the end, and is not empty */
 #define HBC_REFUSED_BAD_SPAN 10         /* a span is reversed, or goes past the end */
-#define HBC_REFUSED_TOO_FEW_TO_READ 11  /* fewer rows are lent to be read than the count says */
+#define HBC_REFUSED_TOO_FEW_TO_READ 11  /* fewer rows are lent to be read than the count or the row's number needs */
 #define HBC_REFUSED_BAD_ROW 13          /* a row to be written says what no header of its layout can */
 #define HBC_REFUSED_BAD_INFO_OFFSET 14  /* a modern row's info_offset is not its large header's end, rounded up to 4 */
 #define HBC_REFUSED_LARGE_BEFORE_END 15 /* the place for large headers is before the table's end */
@@ -59,7 +59,7 @@
 #define HBC_REFUSED_NO_OVERFLOW_PAIR 8  /* no overflow entry is left; in Hermes mode, none has the field's number */
 #define HBC_REFUSED_NO_ZERO 9           /* a zero-ended string has no zero */
 
-/* The most bytes that are read, and that a buffer may have. */
+/* The most bytes that are read, and that the buffer of hbc_write_functions may have. */
 #define HBC_LIMIT 1073741824
 
 /* The word that stands for no parent and for no such string. */
@@ -299,6 +299,21 @@ uint64_t hbc_decode_strings_hermes(uint32_t count, const uint32_t *kinds, size_t
  * Never refused, at any length. */
 void hbc_string_bytes(const uint8_t *storage, size_t storage_len, const uint32_t *rows, size_t rows_len, size_t index,
                       size_t *start, size_t *len);
+
+/* The text of one string as UTF-8, by row `index` of such rows, into the first bytes of `out`. It is always well formed
+ * (the Unicode Standard, table 3-7), and has no zero behind it.
+ * Bit 0 of the marks, HBC_MARK_UTF16, says what the string's bytes are; other marks are not looked at. UTF-16, the least
+ * byte of a unit first: the scalar values of its units, with U+FFFD (EF BF BD) for each surrogate that has no partner.
+ * Else UTF-8: itself where it is well formed, with U+FFFD for each maximal ill-formed part.
+ * The row may hold any numbers. The text is empty where its third word is not 0, where it leaves the storage, and where
+ * it is UTF-16 of an odd number of bytes.
+ * Accepted, the answer is how many bytes the text has, a number below 2^32; bytes of `out` behind them stay. It has at
+ * most three for each byte of UTF-8, as many if that is well formed, and three for each unit of UTF-16: with so much room
+ * the call is never refused 4.
+ * Refused 1 if the storage is longer than HBC_LIMIT; 11 if there is no row `index`; 4 if the text has more than `out_len`
+ * bytes: nothing is then written. Rows and `out` may be of any length. */
+uint64_t hbc_string_text(const uint8_t *storage, size_t storage_len, const uint32_t *rows, size_t rows_len, size_t index,
+                         uint8_t *out, size_t out_len);
 
 /* ---- Literals ----
  *

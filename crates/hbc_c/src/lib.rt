@@ -6,3 +6,4 @@ pub mod function;
 pub mod io;
 pub mod parsing;
 pub mod table;
+pub mod text;

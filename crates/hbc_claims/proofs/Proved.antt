@@ -56,6 +56,11 @@ use Rattle.hbc_claims_table.proofs.Tables as r-table
 use Rattle.hbc_claims_table.proofs.Strings as r-strings
 use Rattle.hbc_claims_table.proofs.Modes as r-modes
 use Rattle.hbc_claims_table.proofs.Unique as u-table
+use Rattle.hbc_claims_text.proofs.Utf8 as utf8
+use Rattle.hbc_claims_text.proofs.Utf16 as utf16
+use Rattle.hbc_claims_text.proofs.Put as r-text
+use Rattle.hbc_claims_text.proofs.Row as r-row
+use Rattle.hbc_claims_text.proofs.Unique as u-text
 use Rattle.hbc_claims_buffer.proofs.Refused as r-buffer
 use Rattle.hbc_claims_buffer.proofs.Used as used
 use Rattle.hbc_claims_buffer.proofs.Parts as parts
@@ -74,7 +79,7 @@ use Rattle.hbc_claims_debug.proofs.Marks as marks
 use Rattle.hbc_claims_debug.proofs.Unique as u-debug
 use Rattle.hbc_claims_c.proofs.Left as r-c
 use Rattle.hbc_claims_c.proofs.Unique as u-c
-use Rattle.hbc_claims.specs.Theorems.{Unique, Theorems, AsFresh, CountedLeft, CursorLeft, DebugRead, Edited, Exact, ExportedLeft, HandlersRead, Meets, Modes, ObjectRead, Packed, Reader, Reads, Refreshes, SectionsRead, SeriesRead, StringsRead, TableRead, TablesLeft, Whole, Writes}
+use Rattle.hbc_claims.specs.Theorems.{Unique, Theorems, AsFresh, CountedLeft, CursorLeft, DebugRead, Edited, Exact, ExportedLeft, HandlersRead, Meets, Modes, ObjectRead, Packed, Reader, Reads, Refreshes, SectionsRead, SeriesRead, StringsRead, TableRead, TablesLeft, Texts, Whole, Writes}
 use Rattle.hbc_claims.proofs.Cases.{hold}
 use Rattle.hbc_claims.proofs.Unique as u-listing
 use Rattle.hbc_claims.proofs.Records as u-records
@@ -85,6 +90,7 @@ unique = record {
   reader = u-reader.unique;
   functions = u-function.unique;
   strings = u-table.unique;
+  texts = u-text.unique;
   literals = u-buffer.unique;
   handlers = u-parsing.unique;
   debug = u-debug.unique;
@@ -150,6 +156,8 @@ tables-left : (k : Refusal) → TablesLeft k
 tables-left k = record {
   table = λ width s c count t t′ n. r-table.table-left width s c count t t′ k n;
   decode-strings = λ mode count kinds small overflow storage t t′ v. v .leaves;
+  put-text = λ text s t t′ v. v .leaves;
+  string-text = λ storage rows index t t′ v. v .leaves;
   read-functions = λ s layout start count t t′ v. v .leaves;
   refresh-functions = λ s layout start count low high t t′ v. v .leaves;
   function-row = λ s layout start i t t′ v. v .leaves;
@@ -187,6 +195,7 @@ counted-left s r h = record {
   hbc-read-function = λ l start i t. r-c.hbc-function l s start t h i;
   hbc-write-functions = λ rows l start count large. r-c.hbc-write l rows start count large s h;
   hbc-decode-strings = λ mode count kinds small overflow t k. r-c.hbc-strings mode count kinds small overflow s t k h;
+  hbc-string-text = λ rows index t b. r-c.hbc-text s rows index t b h;
   hbc-read-series = λ offset count ks ps. r-c.hbc-series s offset count ks ps h;
   hbc-read-object = λ keys values n offset count ks ps. r-c.hbc-object keys values n offset count ks ps h;
   hbc-trailing-sections = λ start regexps storage cjs given sources t. r-c.hbc-sections s start regexps storage cjs given sources t h;
@@ -241,6 +250,9 @@ modes count kinds small overflow storage = record {
   lacking = λ mode t t′ k v e. r-modes.pair-lacking mode small overflow count storage t k e (sym (v .says));
   agree = λ t t₁ t₂ r q v a b. r-modes.modes-agree kinds small overflow count storage t r q t₁ t₂ v a b;
 }
+
+texts : Texts
+texts = record { codes = utf8.all-codes; utf8 = utf8.of-utf8; utf16 = utf16.of-utf16; same = utf16.of-scalars; row = r-row.of-row }
 
 series-read : (s : List ℕ) (offset count : ℕ) (ks ps : List ℕ) (n : ℕ) (ks′ ps′ : List ℕ) → ReadSeries s offset count ks ps (series.Used n) ks′ ps′
     → SeriesRead s offset count ks ps n ks′ ps′
@@ -316,6 +328,9 @@ theorems = record {
   table-read = λ width s c count t n t′ v. table-read {width = width} {s = s} {c = c} {count = count} v;
   strings-read = strings-read;
   modes = modes;
+  texts = texts;
+  text-put = λ text s t r t′ v. r-text.puts text s t v;
+  row-put = λ s rows k t r t′ v. r-row.puts-row s rows k t v;
   series-read = series-read;
   object-read = object-read;
   handlers-read = handlers-read;

@@ -1,6 +1,6 @@
--- docs/FORMAT.md, section 10.1: the worked cases that are proved, P1 to P10, W1 to W5, of which Wn is Pn the other way round, and H1 and H2, on which
--- the modes of decoding strings differ, in one list under one statement. A case is any statement over the promises' definitions.
-use Prim.Native.Nat.{ℕ}
+-- docs/FORMAT.md, section 10.1: the worked cases that are proved, P1 to P10, W1 to W5, of which Wn is Pn the other way round, H1 and H2, on which
+-- the modes of decoding strings differ, and T1 to T8, texts, in one list under one statement. A case is any statement over the promises' definitions.
+use Prim.Native.Nat.{ℕ, zero, suc}
 use mathlib.Core.Path.{_≡_}
 use mathlib.Core.List.{List, [], _∷_, _++_}
 use lib.IntN.{pos, negsuc}
@@ -25,6 +25,10 @@ use Rattle.hbc_function_write.specs.Write.{headOf, putHeaders, writeAnswer}
 use Rattle.hbc_table_strings.specs.declared.Mode.{Mode}
 use Rattle.hbc_table_strings.specs.declared.Mode.the-variants.{InOrder, Hermes}
 use Rattle.hbc_table_strings.specs.Strings.{lesser, decodeAnswer, decodedRows}
+use Rattle.hbc_text_forms.specs.Utf8.{replacement, utf8Text}
+use Rattle.hbc_text_forms.specs.Utf16.{utf16Text}
+use Rattle.hbc_text_forms.specs.Text.{over, putAnswer}
+use Rattle.hbc_text.specs.StringText.{stringText}
 use Rattle.hbc_buffer.specs.Series.{seriesAnswer, seriesTables}
 
 -- function 0 of the table at 0 (P1, P2, P5) is answered by `readFunction`, the packed place of a record (P3, P4) by `legacyPlace` and `modernPlace`
@@ -70,6 +74,16 @@ Writes layout r large bytes answer after =
 -- the inline header of a record's row whose large header is at a place: its bytes, and their packed place
 abbrev pub Points : Layout → Record → ℕ → List ℕ → Type 0
 Points layout r place bytes = (inlineBytes layout (headOf layout (rowAt width (rowWords r)) place 0) ≡ bytes) × (packedAt bytes layout 0 ≡ place)
+
+-- so many of the same after another
+abbrev times : ℕ → List ℕ → List ℕ
+times zero s = []
+times (suc n) s = s ++ times n s
+
+-- the text of bytes of UTF-8 put over so many bytes of 9: the answer, and the bytes afterwards
+abbrev pub PutsIn : List ℕ → ℕ → Answer ℕ → List ℕ → Type 0
+PutsIn s bytes answer after =
+    (putAnswer (utf8Text s) s bytes ≡ answer) × (written (putAnswer (utf8Text s) s bytes) (over (utf8Text s) (replicate bytes 9)) (replicate bytes 9) ≡ after)
 
 abbrev pub cases : List {1} (Type 0)
 cases =
@@ -124,4 +138,34 @@ cases =
     ∷ DecodesIn Hermes 1 (0 ∷ 0x80000000 ∷ []) (0 ∷ []) [] (replicate 4 9) (gives 1) (0 ∷ 0 ∷ 0 ∷ 0 ∷ [])
     ∷ DecodesIn InOrder 1 (0 ∷ 0 ∷ 0x80000001 ∷ []) (0 ∷ []) [] (replicate 4 9) (gives 1) (0 ∷ 0 ∷ 0 ∷ 0 ∷ [])
     ∷ DecodesIn Hermes 1 (0 ∷ 0 ∷ 0x80000001 ∷ []) (0 ∷ []) [] (replicate 4 9) (gives 1) (0 ∷ 0 ∷ 0 ∷ 2 ∷ [])
+    -- T1: the Standard's own example of maximal ill-formed parts : three, then one, then two
+    ∷ (utf8Text (0x61 ∷ 0xF1 ∷ 0x80 ∷ 0x80 ∷ 0xE1 ∷ 0x80 ∷ 0xC2 ∷ 0x62 ∷ 0x80 ∷ 0x63 ∷ 0x80 ∷ 0xBF ∷ 0x64 ∷ [])
+    ≡ 0x61 ∷ replacement ++ replacement ++ replacement ++ 0x62 ∷ replacement ++ 0x63 ∷ replacement ++ replacement ++ 0x64 ∷ [])
+    -- T2: a surrogate as three bytes, an overlong form and what is past the last code point: each byte is a part; and what stands at those borders
+    ∷ (utf8Text (0xED ∷ 0xA0 ∷ 0x80 ∷ []) ≡ replacement ++ replacement ++ replacement)
+    ∷ (utf8Text (0xC0 ∷ 0x80 ∷ []) ≡ replacement ++ replacement)
+    ∷ (utf8Text (0xF4 ∷ 0x90 ∷ 0x80 ∷ 0x80 ∷ []) ≡ replacement ++ replacement ++ replacement ++ replacement)
+    ∷ (utf8Text (0xED ∷ 0x9F ∷ 0xBF ∷ 0xC2 ∷ 0x80 ∷ 0xF4 ∷ 0x8F ∷ 0xBF ∷ 0xBF ∷ []) ≡ 0xED ∷ 0x9F ∷ 0xBF ∷ 0xC2 ∷ 0x80 ∷ 0xF4 ∷ 0x8F ∷ 0xBF ∷ 0xBF ∷ [])
+    -- T3: UTF-16: the pair D83D DE00, the lone low surrogate DC00, 0061
+    ∷ (utf16Text (0x3D ∷ 0xD8 ∷ 0x00 ∷ 0xDE ∷ 0x00 ∷ 0xDC ∷ 0x61 ∷ 0x00 ∷ []) ≡ 0xF0 ∷ 0x9F ∷ 0x98 ∷ 0x80 ∷ replacement ++ 0x61 ∷ [])
+    -- T4: a high surrogate before a pair is alone, and so is one at the end
+    ∷ (utf16Text (0x3D ∷ 0xD8 ∷ 0x3D ∷ 0xD8 ∷ 0x00 ∷ 0xDE ∷ 0x3D ∷ 0xD8 ∷ []) ≡ replacement ++ 0xF0 ∷ 0x9F ∷ 0x98 ∷ 0x80 ∷ replacement)
+    ∷ (utf16Text (0x3D ∷ 0xD8 ∷ 0x3D ∷ 0xD8 ∷ 0x00 ∷ 0xDE ∷ []) ≡ replacement ++ 0xF0 ∷ 0x9F ∷ 0x98 ∷ 0x80 ∷ [])
+    -- T5: an odd number of bytes
+    ∷ (utf16Text (0x61 ∷ 0x00 ∷ 0x61 ∷ []) ≡ [])
+    ∷ (utf16Text (0x61 ∷ []) ≡ [])
+    -- T6: the examples of later editions of the Standard: forms that are not the shortest, surrogates, other ill-formed bytes, sequences cut short
+    ∷ (utf8Text (0xC0 ∷ 0xAF ∷ 0xE0 ∷ 0x80 ∷ 0xBF ∷ 0xF0 ∷ 0x81 ∷ 0x82 ∷ 0x41 ∷ []) ≡ times 8 replacement ++ 0x41 ∷ [])
+    ∷ (utf8Text (0xED ∷ 0xA0 ∷ 0x80 ∷ 0xED ∷ 0xBF ∷ 0xBF ∷ 0xED ∷ 0xAF ∷ 0x41 ∷ []) ≡ times 8 replacement ++ 0x41 ∷ [])
+    ∷ (utf8Text (0xF4 ∷ 0x91 ∷ 0x92 ∷ 0x93 ∷ 0xFF ∷ 0x41 ∷ 0x80 ∷ 0xBF ∷ 0x42 ∷ []) ≡ times 5 replacement ++ 0x41 ∷ times 2 replacement ++ 0x42 ∷ [])
+    ∷ (utf8Text (0xE1 ∷ 0x80 ∷ 0xE2 ∷ 0xF0 ∷ 0x91 ∷ 0x92 ∷ 0xF1 ∷ 0xBF ∷ 0x41 ∷ []) ≡ times 4 replacement ++ 0x41 ∷ [])
+    -- T7: rows: as UTF-8, as UTF-16 with another mark set too, marked invalid, one byte past the storage
+    ∷ (stringText (0x61 ∷ 0x00 ∷ []) (0 ∷ 2 ∷ 0 ∷ 2 ∷ []) 0 ≡ 0x61 ∷ 0x00 ∷ [])
+    ∷ (stringText (0x61 ∷ 0x00 ∷ []) (0 ∷ 2 ∷ 0 ∷ 3 ∷ []) 0 ≡ 0x61 ∷ [])
+    ∷ (stringText (0x61 ∷ 0x00 ∷ []) (0 ∷ 2 ∷ 7 ∷ 2 ∷ []) 0 ≡ [])
+    ∷ (stringText (0x61 ∷ 0x00 ∷ []) (1 ∷ 2 ∷ 0 ∷ 2 ∷ []) 0 ≡ [])
+    -- T8: a text put where there is room for it, with a byte to spare, and where there is not
+    ∷ PutsIn (0x61 ∷ 0xFF ∷ []) 4 (gives 4) (0x61 ∷ replacement)
+    ∷ PutsIn (0x61 ∷ 0xFF ∷ []) 5 (gives 4) (0x61 ∷ replacement ++ 9 ∷ [])
+    ∷ PutsIn (0x61 ∷ 0xFF ∷ []) 3 (refusedAt 4 0) (9 ∷ 9 ∷ 9 ∷ [])
     ∷ []

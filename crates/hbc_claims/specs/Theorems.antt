@@ -1,4 +1,4 @@
--- docs/FORMAT.md, section 1.6, each part naming its own: every theorem on calls in full: the words in nine sections, and at the end the theorems
+-- docs/FORMAT.md, section 1.6, each part naming its own: every theorem on calls in full: the words in ten sections, and at the end the theorems
 -- themselves, in one record, under the names in brackets; proofs/Proved proves them. The promises that they speak of (`ReadFunctions`, ..) are what the
 -- calls' contracts cite (docs/PROMISES.md), the terms are those of hbc_claims_law/specs/Terms. n is a cursor as a call leaves it, t′ a table.
 use Prim.Native.Nat.{ℕ, suc, _+_, _*_, _%_, _^_, _≤_, _<_}
@@ -70,6 +70,11 @@ use Rattle.hbc_table_strings.specs.declared.Decoded.the-variants as decoded
 use Rattle.hbc_table_strings.specs.Row.{stringWidth, stringWords, rowOf}
 use Rattle.hbc_table_strings.specs.Strings.{lesser, DecodeStrings}
 use Rattle.hbc_table_bytes.specs.StringBytes.{stringBytes}
+use Rattle.hbc_text_forms.specs.declared.Text.{Text}
+use Rattle.hbc_text_forms.specs.declared.Text.the-variants as put
+use Rattle.hbc_text_forms.specs.Scalars.{Scalars}
+use Rattle.hbc_text_forms.specs.Text.{PutText}
+use Rattle.hbc_text.specs.StringText.{StringText}
 use Rattle.hbc_buffer_literal.specs.Literal.{literalAt}
 use Rattle.hbc_buffer.specs.declared.Series.the-variants as series
 use Rattle.hbc_buffer.specs.Series.{Run, after, headAt, ReadSeries}
@@ -100,6 +105,7 @@ use Rattle.hbc_c_code.specs.Told.{Moves, Reads as ReadTold}
 use Rattle.hbc_c_io.specs.Io.{ReadsSpan, Marked}
 use Rattle.hbc_c_function.specs.Function.{Places, ToldFunctions, ToldRefresh, ToldWrite, ToldFunction, ToldGround}
 use Rattle.hbc_c_table.specs.Table.{ToldTable, ToldStrings}
+use Rattle.hbc_c_text.specs.Text.{ToldText}
 use Rattle.hbc_c_buffer.specs.Buffer.{ToldLiteral, ToldSeries, ToldObject}
 use Rattle.hbc_c_parsing.specs.Parsing.{ToldHandlers, ToldSections}
 use Rattle.hbc_c_debug.specs.Debug.{Lent as Numbers, ToldDebug}
@@ -117,6 +123,11 @@ use Rattle.hbc_claims_table.specs.Unique as u-table
 use Rattle.hbc_claims_table.specs.Within.{Within}
 use Rattle.hbc_claims_table.specs.Before as was
 use Rattle.hbc_claims_table.specs.Modes.{ByLengths, PairsThere, FirstLacking, Tidy, AsHermes}
+use Rattle.hbc_claims_text.specs.Utf8.{Codes, OfUtf8}
+use Rattle.hbc_claims_text.specs.Utf16.{OfUtf16, OfScalars}
+use Rattle.hbc_claims_text.specs.Put.{Puts}
+use Rattle.hbc_claims_text.specs.Row.{OfRow, PutsRow}
+use Rattle.hbc_claims_text.specs.Unique as u-text
 use Rattle.hbc_claims_buffer.specs.Unique as u-buffer
 use Rattle.hbc_claims_parsing.specs.SectionPairs.{Fits, SourcesFit}
 use Rattle.hbc_claims_parsing.specs.SectionSizes.{Counted}
@@ -130,7 +141,7 @@ use Rattle.hbc_claims.specs.Cases.{cases}
 use Rattle.hbc_claims.specs.Unique as u-listing
 use Rattle.hbc_claims.specs.Records as u-records
 
--- ==== 1. The worked cases: P1 to P10, W1 to W5, H1 and H2 of docs/FORMAT.md, section 10, each stated in Cases, one list (`worked`)
+-- ==== 1. The worked cases: P1 to P10, W1 to W5, H1 and H2, T1 to T8 of docs/FORMAT.md, section 10, each stated in Cases, one list (`worked`)
 -- ==== 2. Uniqueness (`unique`) of every public call, by layers, and of every exported one: two outcomes that both meet its contract, as the checker has it,
 -- are equal: the answer, and every word or number that was lent to it; each by the one law of hbc_claims_law, what equals one thing is one thing
 pub record Unique : Type 0 where
@@ -138,6 +149,7 @@ pub record Unique : Type 0 where
   pub reader : u-reader.Unique
   pub functions : u-function.Unique
   pub strings : u-table.Unique
+  pub texts : u-text.Unique
   pub literals : u-buffer.Unique
   pub handlers : u-parsing.Unique
   pub debug : u-debug.Unique
@@ -230,6 +242,9 @@ pub record TablesLeft (k : Refusal) : Type 0 where
       → (t′ ≡ t) × (n ≡ c)
   pub decode-strings : (mode : Mode) (count : ℕ) (kinds small overflow storage t t′ : List ℕ)
       → DecodeStrings mode count kinds small overflow storage t (decoded.Refused k) t′ → t′ ≡ t
+  -- utf8_text and utf16_text, whatever the text; string_text
+  pub put-text : (text s t t′ : List ℕ) → PutText text s t (put.Refused k) t′ → t′ ≡ t
+  pub string-text : (storage rows : List ℕ) (index : ℕ) (t t′ : List ℕ) → StringText storage rows index t (put.Refused k) t′ → t′ ≡ t
   pub read-functions : (s : List ℕ) (layout : Layout) (start count : ℕ) (t t′ : List ℕ) → ReadFunctions s layout start count t (reading.Refused k) t′ → t′ ≡ t
   pub refresh-functions : (s : List ℕ) (layout : Layout) (start count low high : ℕ) (t t′ : List ℕ)
       → RefreshFunctions s layout start count low high t (refreshed.Refused k) t′ → t′ ≡ t
@@ -289,6 +304,8 @@ pub record CountedLeft (s : List ℕ) (r : ℕ) : Type 0 where
   -- and hbc_decode_strings_hermes
   pub hbc-decode-strings : (mode : Mode) (count : ℕ) (kinds small pairs t : List ℕ) {t′ : List ℕ} → count < 2 ^ 32
       → ToldStrings mode count kinds small pairs s t r t′ → t′ ≡ t
+  -- s being a storage of bytes here
+  pub hbc-string-text : (rows : List ℕ) (index : ℕ) (t : List ℕ) {t′ : List ℕ} → ((i : ℕ) → getD s i 0 < 256) → ToldText s rows index t r t′ → t′ ≡ t
   pub hbc-read-series : (offset count : ℕ) (ks ps : List ℕ) {ks′ ps′ : List ℕ} → ToldSeries s offset count ks ps r ks′ ps′ → (ks′ ≡ ks) × (ps′ ≡ ps)
   pub hbc-read-object : (keys values : List ℕ) (n offset count : ℕ) (ks ps : List ℕ) {ks′ ps′ : List ℕ} → ToldObject keys values n offset count ks ps r ks′ ps′
       → (ks′ ≡ ks) × (ps′ ≡ ps)
@@ -442,6 +459,33 @@ pub record Writes (rows : List ℕ) (layout : Layout) (start count large : ℕ) 
   -- them ends, or the table's end if there is none, and within the buffer
   pub placed : Placed layout (rowAt width rows) start large count (length b) e
 
+-- ==== 10. Texts (docs/FORMAT.md, section 4.8). What a character, a maximal ill-formed part, a cut, a lone surrogate are stands in
+-- hbc_text_forms/specs, to be held beside the Unicode Standard; each part here stands in full in hbc_claims_text/specs (`texts`):
+pub record Texts : Type 0 where
+  -- table 3-7's rows have the encodings of the scalar values, each of one alone, and nothing else: no surrogate, no overlong form, nothing past U+10FFFF
+  pub codes : Codes
+  -- UTF-8, of any bytes: the text is well formed; well-formed bytes come out unchanged, and so a text is its own text. However the bytes are cut from the
+  -- front into characters and maximal ill-formed parts, and they can be, each character as it is and one U+FFFD for each such part make the text; it has
+  -- as many U+FFFD as the bytes had and one for each part, no more; without such a part they are well formed. At most three bytes for each byte
+  pub utf8 : (s : List ℕ) → OfUtf8 s
+  -- UTF-16, of any bytes: the text is well formed; of an odd number of bytes it is empty. Of an even number it is the encodings of the values of the
+  -- units: however those are taken from the front, and they can be, of a pair its scalar value, of each lone surrogate U+FFFD, of any other unit itself;
+  -- it has as many U+FFFD as there were units U+FFFD and lone surrogates; without a lone one the bytes are the UTF-16 of those values. At most three
+  -- bytes for each two
+  pub utf16 : (s : List ℕ) → ((i : ℕ) → getD s i 0 < 256) → OfUtf16 s
+  -- the UTF-16 of scalar values has no lone surrogate, and its text is the encodings of the same scalar values
+  pub same : (cs : List ℕ) → Scalars cs → OfScalars cs
+  -- of row k of any numbers t: the text is well formed; it is that of the bytes which the row names, as UTF-16 where bit 0 of its marks is set, else as
+  -- UTF-8; empty where it is marked invalid, where it leaves the storage, and of UTF-16 of an odd number of bytes. At most three bytes for each byte of
+  -- the storage
+  pub row : (s t : List ℕ) (k : ℕ) → ((i : ℕ) → getD s i 0 < 256) → OfRow s t k
+
+-- of a call that puts a text of bytes s into t, and answers r, as utf8_text and utf16_text do (`text-put`; in full `Puts`): it is accepted exactly when
+-- the bytes are not too many and there is room; r is then the text's length, the text stands in front of t′, whole, and behind it nothing is written. It
+-- is refused 1 for too many bytes, else 4, and t′ is then t
+-- of string_text, which puts the text of row k (`row-put`; in full `PutsRow`): the same, accepted exactly when the storage is not too long, the row is
+-- there and the text has room, else refused 1, then 11, then 4
+
 -- ==== The theorems
 pub record Theorems : Type 2 where
   pub worked : All cases
@@ -467,6 +511,9 @@ pub record Theorems : Type 2 where
   pub strings-read : (mode : Mode) (count : ℕ) (kinds small overflow storage t : List ℕ) (n : ℕ) (t′ : List ℕ)
       → DecodeStrings mode count kinds small overflow storage t (decoded.Rows n) t′ → StringsRead mode count kinds small overflow storage t n t′
   pub modes : (count : ℕ) (kinds small overflow storage : List ℕ) → Modes count kinds small overflow storage
+  pub texts : Texts
+  pub text-put : (text s t : List ℕ) (r : Text) (t′ : List ℕ) → PutText text s t r t′ → Puts text s t r t′
+  pub row-put : (s rows : List ℕ) (k : ℕ) (t : List ℕ) (r : Text) (t′ : List ℕ) → StringText s rows k t r t′ → PutsRow s rows k t r t′
   pub series-read : (s : List ℕ) (offset count : ℕ) (ks ps : List ℕ) (n : ℕ) (ks′ ps′ : List ℕ)
       → ReadSeries s offset count ks ps (series.Used n) ks′ ps′ → SeriesRead s offset count ks ps n ks′ ps′
   pub object-read : (keys values : List ℕ) (b : Bool) (offset count : ℕ) (ks ps : List ℕ) (o : Object) (ks′ ps′ : List ℕ)

@@ -6,7 +6,7 @@ use mathlib.Core.List.{List}
 use Prim.Native.Nat.{ℕ, _*_, _^_, _≤_, _<_}
 use native.Mathlib.Omega.{arith}
 use lib.Ieee.{Float}
-use lib.ListN.{length}
+use lib.ListN.{length, getD}
 use lib.Dec.{ltb, eqb}
 use borrow.Author.Tests.{ltb-false}
 use Rattle.hbc_bits.specs.Bits.{field}
@@ -61,6 +61,9 @@ use Rattle.hbc_claims_function.proofs.Scans.{count-le, scan-counts}
 use Rattle.hbc_claims_function.proofs.Accepted.{refreshable, writable}
 use Rattle.hbc_claims_table.proofs.Tables.{table-left}
 use Rattle.hbc_claims_table.proofs.Strings.{decoded-count}
+use Rattle.hbc_claims_text.proofs.Row.{of-row, puts-row}
+use Rattle.hbc_text.specs.StringText.{stringText}
+use Rattle.hbc_c_text.specs.Text.{ToldText}
 use Rattle.hbc_claims_buffer.proofs.Refused.{literal-left}
 use Rattle.hbc_claims_buffer.proofs.Used.{used-small}
 
@@ -205,6 +208,15 @@ pub hbc-strings : (mode : Mode) (count : ℕ) (kinds small overflow storage befo
 hbc-strings mode count kinds small overflow storage before k h = left (λ n e q.
     let a : n ≡ lesser count (length small) = decoded-count mode count kinds small overflow storage before _ n (record { says = sym e; leaves = refl }) in
     omega (arith, lesser-le count (length small)))
+
+-- ---- texts
+
+pub hbc-text : (s rows : List ℕ) (index : ℕ) (before : List ℕ) {r : ℕ} {after : List ℕ} → ((i : ℕ) → getD s i 0 < 256) → 2 ^ 32 ≤ r
+    → ToldText s rows index before r after → after ≡ before
+hbc-text s rows index before b h = left (λ n e q.
+    let p = puts-row s rows index before (record { says = sym e; leaves = refl }) in
+    let a : n ≡ length (stringText s rows index) = p .wrote .counts n refl in
+    omega (arith, p .only n refl .0, of-row s rows index b .most))
 
 -- ---- literals
 

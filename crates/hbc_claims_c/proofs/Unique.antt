@@ -14,6 +14,7 @@ use Rattle.hbc_c_function.proofs.ByLayouts.{alone-by}
 use Rattle.hbc_claims_law.proofs.Law.{same}
 use Rattle.hbc_claims_function.proofs.Unique.{one-reading, one-refreshed, one-wrote}
 use Rattle.hbc_table_strings.proofs.Alone.{oneDecoded}
+use Rattle.hbc_text_forms.proofs.Alone.{oneText}
 use Rattle.hbc_claims_buffer.proofs.Unique.{oneSeries, both}
 use Rattle.hbc_claims_parsing.proofs.Unique.{oneListed}
 use Rattle.hbc_debug.proofs.Alone.{oneDebugged}
@@ -68,6 +69,7 @@ unique = record {
   hbc_decode_strings = λ k a r q s u. told.alone (λ x y. alone oneDecoded);
   hbc_decode_strings_hermes = λ k a r q s u. told.alone (λ x y. alone oneDecoded);
   hbc_string_bytes = (λ k a r q s u e f. same (e .starts) (f .starts), λ k a r q s u e f. same (e .lasts) (f .lasts));
+  hbc_string_text = λ k a r q s u. told.alone (λ x y. alone oneText);
   hbc_read_literal = (
     λ k a r q s u e f. let m = moves-one (e .tells) (f .tells) in (m .0, m .1, same (e .kind-left) (f .kind-left), same (e .number-left) (f .number-left)),
     λ k a r q s u e f. same (e .word-left) (f .word-left),

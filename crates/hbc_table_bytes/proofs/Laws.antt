@@ -18,7 +18,7 @@ use Rattle.hbc_table_bytes.specs.StringBytes.{spanAt, stringSpan, string
 -- ---- the span that a row says, by the words read
 
 -- word c of row k, as the row has it and as the table has it
-row-word : (w : ℕ) (t : List ℕ) (k c : ℕ) → c < w → getD (rowAt w t k) c 0 ≡ entryAt t (k * w + c)
+pub row-word : (w : ℕ) (t : List ℕ) (k c : ℕ) → c < w → getD (rowAt w t k) c 0 ≡ entryAt t (k * w + c)
 unfolding rowAt entryAt
 row-word w t k c h = getD-take w (drop (k * w) t) c 0 h ∙ getD-drop (k * w) t c 0
 

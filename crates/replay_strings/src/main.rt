@@ -24,6 +24,7 @@ fn judge(record: &[u8], n: Asked) -> bool {
         21 => table::decode_strings(record, s, n, Mode::InOrder),
         31 => table::decode_strings(record, s, n, Mode::Hermes),
         22 => table::string_bytes(record, s, n),
+        32 => table::string_text(record, s, n),
         23 => buffer::read_literal(record, s, n),
         24 => buffer::read_series(record, s, n),
         25 => buffer::read_object(record, s, n),

@@ -1,12 +1,15 @@
 // String tables.
+use hbc_io::Span;
 use hbc_record::Asked;
 use hbc_record::FILL;
+use hbc_record::FILL_BYTE;
 use hbc_record::NONE;
 use hbc_record::answers;
 use hbc_record::bytes_are;
 use hbc_record::given;
 use hbc_record::leaves;
 use hbc_record::lent;
+use hbc_record::lent_bytes;
 use hbc_table_strings::Mode;
 
 // Asked: cursor, words lent; count. The answer: code, cursor.
@@ -45,4 +48,14 @@ pub(crate) fn string_bytes(record: &[u8], s: &[u8], n: Asked) -> bool {
     let p = hbc_table_bytes::string_span(s, rows, n.a);
     let part = hbc_table_bytes::string_bytes(s, rows, n.a);
     answers(record, p.start as u64, p.len, NONE, NONE, NONE) & bytes_are(record, 3, part)
+}
+
+// Asked: a row's number, bytes lent. Given: the rows. The answer: code, 0; then the buffer.
+pub(crate) fn string_text(record: &[u8], s: &[u8], n: Asked) -> bool {
+    let mut table = [0u32; 64];
+    let rows = given(record, 4, &mut table);
+    let mut buffer = [FILL_BYTE; 256];
+    let code = hbc_c_text::string_text(s, rows, n.a, lent_bytes(&mut buffer, n.b));
+    let all = Span { start: 0, len: n.b };
+    answers(record, code, 0, NONE, NONE, NONE) & bytes_are(record, 3, hbc_io::part(&buffer, all))
 }

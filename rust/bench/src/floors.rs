@@ -151,7 +151,7 @@ mod tests {
     fn the_document_can_fail() {
         let floors = parse(&document().unwrap()).unwrap();
         let layers = [
-            "io", "table", "buffer", "function", "parsing", "debug", "callees",
+            "io", "table", "text", "buffer", "function", "parsing", "debug", "callees",
         ];
         for layer in layers {
             assert!(floors.iter().any(|floor| floor.layer == layer), "{layer}");

@@ -21,6 +21,8 @@ mod strings;
 #[cfg(published)]
 mod table;
 #[cfg(published)]
+mod texts;
+#[cfg(published)]
 mod whole;
 #[cfg(published)]
 mod worst;
@@ -30,6 +32,7 @@ fn main() -> ExitCode {
     table::main(&[
         ("io", io::rows),
         ("table", strings::rows),
+        ("text", texts::rows),
         ("buffer", buffer::rows),
         ("function", function::rows),
         ("parsing", parsing::rows),

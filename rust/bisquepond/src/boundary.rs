@@ -2,9 +2,14 @@
 //!
 //! What include/hbc.h asks of a caller holds here by the types: a slice's pointer is never NULL, is aligned and stands
 //! for as many items as are said; a number is lent by an exclusive reference, as is every slice that is written, so
-//! that nothing lent overlaps. The archive is proved to read and write within what was lent.
+//! that nothing lent overlaps. The archive is proved to read and write within what was lent; and that a text which it
+//! writes is well-formed UTF-8.
 
 #![allow(unsafe_code)]
+
+use alloc::string::String;
+use alloc::vec::Vec;
+use core::str;
 
 use crate::io::Marked;
 use crate::refusal::{Place, Refusal, Result};
@@ -262,6 +267,43 @@ pub(crate) fn string_bytes<'a>(storage: &'a [u8], rows: &[StringRow], index: usi
         )
     };
     &storage[start..][..len]
+}
+
+/// The text stands at the front of what is lent: so many bytes.
+fn text_len(storage: &[u8], rows: &[StringRow], index: usize, out: &mut [u8]) -> Result<usize> {
+    let (s, len, words) = (storage.as_ptr(), storage.len(), words_of(rows));
+    let (read, read_len) = (words.as_ptr(), words.len());
+    let (lent, room) = (out.as_mut_ptr(), out.len());
+    let code = unsafe { sys::hbc_string_text(s, len, read, read_len, index, lent, room) };
+    Refusal::check(code, Place::Text).map(|bytes| bytes as usize)
+}
+
+pub(crate) fn string_text<'t>(
+    storage: &[u8],
+    rows: &[StringRow],
+    index: usize,
+    out: &'t mut [u8],
+) -> Result<&'t str> {
+    let len = text_len(storage, rows, index, out)?;
+    let text = &out[..len];
+    debug_assert!(str::from_utf8(text).is_ok());
+    // SAFETY: the text that the archive wrote is proved to be well-formed UTF-8.
+    Ok(unsafe { str::from_utf8_unchecked(text) })
+}
+
+/// The text, in as many of these bytes as it has.
+pub(crate) fn string_text_of(
+    storage: &[u8],
+    rows: &[StringRow],
+    index: usize,
+    mut out: Vec<u8>,
+) -> Result<String> {
+    let len = text_len(storage, rows, index, &mut out)?;
+    out.truncate(len);
+    out.shrink_to_fit();
+    debug_assert!(str::from_utf8(&out).is_ok());
+    // SAFETY: as above.
+    Ok(unsafe { String::from_utf8_unchecked(out) })
 }
 
 /// The kind, the float and the word; what the kind does not speak of is 0.

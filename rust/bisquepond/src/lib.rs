@@ -20,7 +20,7 @@
 //! |---|---|
 //! | [`io`] | numbers, LEB128 and strings at a position in the bytes |
 //! | [`function`] | function headers of both layouts, the refresh of a table after an edit, and edited rows written as headers |
-//! | [`table`] | tables of words and pairs, and strings |
+//! | [`table`] | tables of words and pairs, strings, and their texts |
 //! | [`literal`] | literals, series of them, and the keys and values of objects |
 //! | [`parsing`] | exception handlers and trailing sections |
 //! | [`debug`] | the debug section |

@@ -47,6 +47,8 @@ pub(crate) enum Place {
     String,
     /// A string that names its overflow entry.
     HermesString,
+    /// Nothing: a row's text is asked for.
+    Text,
     Entries,
     Values,
     Bytes,
@@ -146,7 +148,7 @@ reasons! {
     NoZero = 9, "a zero-ended string has no zero";
     /// A span is reversed, or goes past the end.
     BadSpan = 10, "the span is reversed or goes past the end of the file";
-    /// Fewer rows are lent to be read than the count says.
+    /// Fewer rows are lent to be read than the count says, or than the number of the row that is asked for.
     TooFewToRead = 11, "fewer rows were lent to be read than the count says";
     /// A layout that there is not.
     NoSuchLayout = 12, "there is no such layout: it is legacy16 (0) or modern12 (1)";
@@ -248,6 +250,15 @@ impl fmt::Display for Refusal {
                 f,
                 "string {place} names an overflow entry whose number is past those lent"
             ),
+            (Reason::TooLong, Place::Text) => {
+                write!(f, "the storage has more than 2^30 bytes")
+            }
+            (Reason::TooFewToRead, Place::Text) => {
+                write!(f, "there is no row of the number that was asked for")
+            }
+            (Reason::TooFewRows, Place::Text) => {
+                write!(f, "the text has more bytes than the buffer lent for it")
+            }
             (Reason::AnotherLength, Place::Bytes) => write!(
                 f,
                 "the table was read from a file of {place} bytes, and this one has another length: read it again"
@@ -312,6 +323,21 @@ mod tests {
         let [in_order, hermes] = [Place::String, Place::HermesString].map(said);
         assert!(in_order.contains(": string 7 ") && hermes.contains(": string 7 "));
         assert!(in_order.contains("none is left") && hermes.contains("past those lent"));
+    }
+
+    /// A text has no place, and its refusals speak of storage, row and buffer.
+    #[test]
+    fn a_refused_text_is_told() {
+        let said = |reason, of| Refusal::of(reason, 0, of).to_string();
+        for (reason, word) in [
+            (Reason::TooLong, "storage"),
+            (Reason::TooFewToRead, "no row"),
+            (Reason::TooFewRows, "buffer"),
+        ] {
+            let (text, other) = (said(reason, Place::Text), said(reason, Place::Nothing));
+            let told = (text.contains(word), other.contains(word));
+            assert_eq!(told, (true, false), "{reason:?}");
+        }
     }
 
     #[test]

@@ -21,7 +21,7 @@ pub const fn place(code: u64) -> u32 {
     code as u32
 }
 
-/// The most bytes that are read, and that a buffer may have: a longer slice is refused 1. `HBC_LIMIT`.
+/// The most bytes that are read, and that a buffer of headers may have: a longer slice is refused 1. `HBC_LIMIT`.
 ///
 /// ```
 /// assert_eq!(bisquepond::sys::LIMIT, 1 << 30);
@@ -55,6 +55,7 @@ unsafe extern "C" {
     pub fn hbc_decode_strings(count: u32, kinds: *const u32, kinds_len: usize, small: *const u32, small_len: usize, overflow: *const u32, overflow_len: usize, storage: *const u8, storage_len: usize, rows: *mut u32, rows_len: usize) -> u64;
     pub fn hbc_decode_strings_hermes(count: u32, kinds: *const u32, kinds_len: usize, small: *const u32, small_len: usize, overflow: *const u32, overflow_len: usize, storage: *const u8, storage_len: usize, rows: *mut u32, rows_len: usize) -> u64;
     pub fn hbc_string_bytes(storage: *const u8, storage_len: usize, rows: *const u32, rows_len: usize, index: usize, start: *mut usize, len: *mut usize);
+    pub fn hbc_string_text(storage: *const u8, storage_len: usize, rows: *const u32, rows_len: usize, index: usize, out: *mut u8, out_len: usize) -> u64;
 
     pub fn hbc_read_literal(s: *const u8, s_len: usize, at: *mut usize, tag: u8, kind: *mut u32, number: *mut f64, word: *mut u32) -> u64;
     pub fn hbc_read_series(s: *const u8, s_len: usize, offset: u32, count: u32, kinds: *mut u32, kinds_len: usize, payloads: *mut u64, payloads_len: usize) -> u64;

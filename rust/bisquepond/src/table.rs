@@ -1,5 +1,6 @@
-//! Tables of words and of pairs, and strings.
+//! Tables of words and of pairs, strings, and their texts.
 
+use alloc::string::String;
 use alloc::vec;
 use alloc::vec::Vec;
 use core::fmt;
@@ -7,7 +8,8 @@ use core::slice;
 
 use crate::boundary;
 use crate::io::ByteReader;
-use crate::{Result, Table};
+use crate::sys::LIMIT;
+use crate::{Reason, Result, Table};
 
 pub use crate::boundary::StringRow;
 
@@ -286,6 +288,81 @@ pub fn string_bytes<'a>(storage: &'a [u8], rows: &[StringRow], index: usize) -> 
     boundary::string_bytes(storage, rows, index)
 }
 
+/// Writes the text of string `index` of the rows into the first bytes that are lent, as UTF-8, and answers it. Other bytes
+/// stay.
+///
+/// A row that is marked UTF-16 has the scalar values of its units, with U+FFFD for each surrogate that has no partner
+/// ([`char::decode_utf16`] reads units so); any other is UTF-8 with U+FFFD for each maximal ill-formed part (as
+/// [`String::from_utf8_lossy`] makes it), so that well-formed UTF-8 is its own text. The text is empty where the row is
+/// marked invalid, where it leaves the storage, and where it is UTF-16 of an odd number of bytes. A text has at most three
+/// bytes for each byte of UTF-8, and three for each unit of UTF-16.
+///
+/// # Errors
+///
+/// `TooLong` if the storage is longer than 2^30 bytes; `TooFewToRead` if there is no such row; `TooFewRows` if the text has
+/// more bytes than are lent.
+///
+/// ```
+/// use bisquepond::{Reason, Row, table::{self, StringRow}};
+///
+/// // UTF-8 of which one byte is ill-formed; the last four bytes as UTF-16, a lone surrogate and a letter.
+/// let storage = b"h\xFFi\x3D\xD8a\0";
+/// let rows = StringRow::rows(&[0, 3, 0, 0, 3, 4, 0, 1]);
+/// let mut out = [7; 8];
+/// assert_eq!(table::string_text_into(storage, rows, 0, &mut out)?, "h\u{FFFD}i");
+/// assert_eq!(out, [b'h', 0xEF, 0xBF, 0xBD, b'i', 7, 7, 7]);
+/// assert_eq!(table::string_text_into(storage, rows, 1, &mut out)?, "\u{FFFD}a");
+///
+/// let mut out = [7; 4];
+/// let refusal = table::string_text_into(storage, rows, 0, &mut out).unwrap_err();
+/// assert_eq!((refusal.reason(), out), (Reason::TooFewRows, [7; 4]));
+/// let refusal = table::string_text_into(storage, rows, 2, &mut out).unwrap_err();
+/// assert_eq!(refusal.reason(), Reason::TooFewToRead);
+/// # Ok::<(), bisquepond::Refusal>(())
+/// ```
+pub fn string_text_into<'t>(
+    storage: &[u8],
+    rows: &[StringRow],
+    index: usize,
+    out: &'t mut [u8],
+) -> Result<&'t str> {
+    boundary::string_text(storage, rows, index, out)
+}
+
+/// The same in memory of its own, of as many bytes as the text has. While it is made, a string with an ill-formed part
+/// has three times its own length, the most that a text can need.
+///
+/// # Errors
+///
+/// Those of [`string_text_into`], but never `TooFewRows`.
+///
+/// ```
+/// use bisquepond::{Reason, Row, table::{self, StringRow}};
+///
+/// let rows = StringRow::rows(&[0, 3, 0, 0, 0, 3, 0, 1]);
+/// assert_eq!(table::string_text(b"h\xFFi", rows, 0)?, "h\u{FFFD}i");
+/// // UTF-16 of three bytes.
+/// assert_eq!(table::string_text(b"h\xFFi", rows, 1)?, "");
+/// let refusal = table::string_text(b"h\xFFi", rows, 2).unwrap_err();
+/// assert_eq!(refusal.reason(), Reason::TooFewToRead);
+/// # Ok::<(), bisquepond::Refusal>(())
+/// ```
+pub fn string_text(storage: &[u8], rows: &[StringRow], index: usize) -> Result<String> {
+    // A storage that is refused is given no memory.
+    let bytes = match storage.len() > LIMIT {
+        true => 0,
+        false => string_bytes(storage, rows, index).len(),
+    };
+    let wide = rows.get(index).is_some_and(StringRow::is_utf16);
+    let made = |room| boundary::string_text_of(storage, rows, index, vec![0; room]);
+    // As much as well-formed UTF-8 needs, and UTF-16 at the most; then as much as any UTF-8 does.
+    let first = if wide { bytes / 2 * 3 } else { bytes };
+    match made(first) {
+        Err(refusal) if refusal.reason() == Reason::TooFewRows => made(3 * bytes),
+        made => made,
+    }
+}
+
 words! {
     StringRow,
     "# let strings = bisquepond::table::Strings { kinds: &[], small: &[1 | 1 << 1 | 1 << 24], overflow: &[], storage: b\"abcd\" };\nlet row = strings.decode(1)?[0];":
@@ -335,6 +412,41 @@ impl StringRow {
     /// ```
     pub fn bytes<'a>(&self, storage: &'a [u8]) -> &'a [u8] {
         string_bytes(storage, slice::from_ref(self), 0)
+    }
+
+    /// Its text, as [`string_text`] answers it.
+    ///
+    /// # Errors
+    ///
+    /// `TooLong` if the storage is longer than 2^30 bytes.
+    ///
+    /// ```
+    /// # use bisquepond::{Row, table::StringRow};
+    /// assert_eq!(StringRow::rows(&[1, 4, 0, 1])[0].text(b"!h\0i\0")?, "hi");
+    /// # Ok::<(), bisquepond::Refusal>(())
+    /// ```
+    pub fn text(&self, storage: &[u8]) -> Result<String> {
+        string_text(storage, slice::from_ref(self), 0)
+    }
+
+    /// The same in the first bytes that are lent, as [`string_text_into`] writes it: one buffer for many strings.
+    ///
+    /// # Errors
+    ///
+    /// `TooLong` if the storage is longer than 2^30 bytes; `TooFewRows` if the text has more bytes than are lent.
+    ///
+    /// ```
+    /// use bisquepond::table::Strings;
+    ///
+    /// let strings = Strings { kinds: &[], small: &[2 << 24, 2 << 1 | 3 << 24], overflow: &[], storage: b"hiyou" };
+    /// let mut out = [0; 3];
+    /// for (row, text) in strings.decode(2)?.iter().zip(["hi", "you"]) {
+    ///     assert_eq!(row.text_into(strings.storage, &mut out)?, text);
+    /// }
+    /// # Ok::<(), bisquepond::Refusal>(())
+    /// ```
+    pub fn text_into<'t>(&self, storage: &[u8], out: &'t mut [u8]) -> Result<&'t str> {
+        string_text_into(storage, slice::from_ref(self), 0, out)
     }
 }
 

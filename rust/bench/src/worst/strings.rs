@@ -73,6 +73,65 @@ pub fn rows(bench: &Bench) {
         };
         (0, read)
     });
+    texts(bench);
+}
+
+/// One text of so many bytes, each of them ill-formed or all of them in parts that end too soon; and in too little room.
+fn texts(bench: &Bench) {
+    let pieces: [(&str, &[u8], u32, usize); 5] = [
+        ("FF", b"\xFF", 0, 3),
+        ("F0 90 80, no fourth byte", b"\xF0\x90\x80", 0, 3),
+        ("E1 80 and a letter, again and again", b"\xE1\x80a", 0, 4),
+        (
+            "letters of one and of three bytes in turn",
+            b"a\xE6\x97\xA5",
+            0,
+            4,
+        ),
+        (
+            "UTF-16, a lone half and a pair in turn",
+            b"\x00\xD8\x3D\xD8\x00\xDE",
+            1,
+            7,
+        ),
+    ];
+    for (name, piece, marks, text) in pieces {
+        row(bench, "string_text", name, |n| {
+            let storage = piece.repeat(n / piece.len() + 1);
+            let bytes = text * (n / piece.len() + 1);
+            string_text(storage, marks, bytes, bytes as u64)
+        });
+    }
+    row(bench, "string_text", "FF, room for all but one byte", |n| {
+        string_text(vec![0xFF; n], 0, 3 * n - 1, refused(4, 0))
+    });
+    row(bench, "string_text", "any row, of four letters", |n| {
+        let (storage, mut out) = (vec![b'a'; 4 * n], [0; 4]);
+        let words: Vec<u32> = (0..n).flat_map(|i| [4 * i as u32, 4, 0, 0]).collect();
+        let read = move || {
+            calls(n, |i| {
+                let (s, len, index) = (storage.as_ptr(), storage.len(), scattered(i, n));
+                let (rows, lent) = (words.as_ptr(), out.as_mut_ptr());
+                unsafe { hbc_string_text(s, len, rows, ROW * n, index, lent, 4) }
+            })
+        };
+        (4 * n as u64, read)
+    });
+}
+
+/// All bytes of a storage as one string, into so many bytes.
+fn string_text(
+    storage: Vec<u8>,
+    marks: u32,
+    room: usize,
+    answer: u64,
+) -> (u64, impl FnMut() -> u64) {
+    let (rows, mut out) = ([0, storage.len() as u32, 0, marks], vec![0; room]);
+    let read = move || {
+        let (s, len, rows) = (storage.as_ptr(), storage.len(), rows.as_ptr());
+        unsafe { hbc_string_text(s, len, rows, ROW, 0, out.as_mut_ptr(), room) }
+    };
+    (answer, read)
 }
 
 /// Hermes mode: runs that name no string, and pairs that many share.

@@ -100,6 +100,11 @@ fn our_strings(strings: &Strings, count: u32) -> Result<Vec<u32>, (u32, u32)> {
     told(strings.decode(count).map(|rows| rows.words().to_vec()))
 }
 
+/// The text of the first string.
+fn our_text(strings: &Strings) -> Result<String, (u32, u32)> {
+    told(strings.decode(1).and_then(|rows| rows[0].text(strings.storage)))
+}
+
 fn plain(text: &str) -> Text {
     (text.into(), false, false)
 }
@@ -134,6 +139,13 @@ fn texts(run: &mut Run) -> Compared {
     row(run, "c: FF, and EF BF BD")
         .rust(rust_strings(&two, 2), Ok(vec![plain("\u{FFFD}"); 2]))?
         .ours(our_strings(&two, 2), Ok(vec![0, 1, 0, 0, 1, 3, 0, 0]))?;
+    for (small, text) in [(entry(0, 0), "<invalid utf8>"), (entry(0, 0) | 1, "<invalid utf16>")] {
+        let small = [small];
+        let one = strings(&small, &[], &[]);
+        row(run, "c: the text of an invalid string")
+            .rust(rust_strings(&one, 1), Ok(vec![(text.into(), small[0] & 1 == 1, false)]))?
+            .ours(our_text(&one), Ok(String::new()))?;
+    }
     let small = [entry(0, 0), entry(1, 0)];
     let two = strings(&small, &[], &[0; 2]);
     row(run, "c: length 0 at 0, and at 1")
@@ -203,5 +215,8 @@ fn longer(run: &mut Run) -> Compared {
     let one = strings(&[0], &[], &long);
     row(run, "j: one string of a storage of 2^30 + 1 bytes")
         .rust(rust_strings(&one, 1), Ok(vec![plain("")]))?
-        .ours(our_strings(&one, 1), Err((1, 0)))
+        .ours(our_strings(&one, 1), Err((1, 0)))?;
+    row(run, "j: one string's text of a storage of 2^30 + 1 bytes")
+        .rust(rust_strings(&one, 1), Ok(vec![plain("")]))?
+        .ours(told(StringRow::default().text(&long)), Err((1, 0)))
 }

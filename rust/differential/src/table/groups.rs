@@ -1,6 +1,7 @@
 //! The groups of inputs on which the two sides of the string tables are compared.
 
 pub mod hermes;
+pub mod text;
 
 use bisquepond::sys::LIMIT;
 use harness::Random;
@@ -29,6 +30,7 @@ pub fn compare(run: &mut Run) -> Compared {
     run.group("strings, storages to 2^23 and 2^30 bytes", long_storages)?;
     run.group("one string's bytes, against docs/FORMAT.md", parts)?;
     hermes::compare(run)?;
+    text::compare(run)?;
     if run.full {
         run.group("a whole file of 2^30 bytes", whole_file)?;
         run.group("strings of 2^30 bytes", longest_strings)?;
@@ -514,13 +516,14 @@ fn most_strings(run: &mut Run) -> Compared {
 }
 
 fn random(run: &mut Run) -> Compared {
-    let (mut random, mut hermes) = (run.random(9), run.random(10));
+    let (mut random, mut hermes, mut texts) = (run.random(9), run.random(10), run.random(22));
     while run.more() {
         any_read(run, &mut random)?;
         for _ in 0..4 {
             run.compare(&any_case(&mut random).case())?;
         }
         hermes::any(run, &mut hermes)?;
+        text::any(run, &mut texts)?;
     }
     Ok(())
 }

@@ -1,6 +1,7 @@
 //! Hostile inputs for the string tables.
 
 mod hermes;
+mod text;
 
 use bisquepond::sys::LIMIT;
 use harness::Random;
@@ -19,10 +20,12 @@ pub fn soak(soak: &mut Soak) -> Compared {
     reads(soak)?;
     strings(soak)?;
     hermes::soak(soak)?;
-    let mut other = soak.random(98);
+    text::soak(soak)?;
+    let (mut other, mut texts) = (soak.random(98), soak.random(97));
     soak.at_random(1 << 14, |random| {
         any(random)?;
-        hermes::any(&mut other)
+        hermes::any(&mut other)?;
+        text::any(&mut texts)
     })
 }
 

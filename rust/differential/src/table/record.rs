@@ -1,6 +1,7 @@
 //! A sample of what is right of string tables.
 
 mod hermes;
+mod text;
 
 use harness::Random;
 
@@ -12,12 +13,13 @@ use crate::inputs::any_bytes;
 use crate::record::{Record, Sample, FILL};
 use crate::record::{DECODE_STRINGS, READ_PAIR_TABLE, READ_U32_TABLE, STRING_BYTES};
 
-const NAMES: [&str; 5] = [
+const NAMES: [&str; 6] = [
     "read_u32_table",
     "read_pair_table",
     "decode_strings",
     "string_span, string_bytes",
     "decode_strings_hermes",
+    "string_text",
 ];
 
 /// The words for which the program has room, besides those that are not lent; and those of a table that it is given.
@@ -28,6 +30,7 @@ fn answers(group: usize) -> &'static [u32] {
     match group {
         0 | 1 => &[0, 2, 3, 4],
         2 | hermes::GROUP => &[0, 4, 8],
+        text::GROUP => &[0, 4, 11],
         _ => &[0],
     }
 }
@@ -104,6 +107,7 @@ pub fn write(mut random: Random) -> (Vec<u8>, Vec<String>) {
         any(&mut sample, &mut random);
     }
     hermes::write(&mut sample, &mut random);
+    text::write(&mut sample, &mut random);
     sample.done(answers)
 }
 

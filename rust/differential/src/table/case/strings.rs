@@ -8,6 +8,7 @@ use published::file::parser::table::{decode_string_table, parse_string_kinds};
 use published::file::structure::{StringKindEntry, StringTableEntry};
 use published::io::ByteReader;
 
+use super::text;
 use crate::case::{bytes_word, code, printed, replayed, table_word};
 use crate::case::{Compare, Difference, Refusal, Words};
 use crate::inputs::bytes_of;
@@ -122,6 +123,29 @@ impl Case<'_> {
         Ok(())
     }
 
+    /// Whether our text of a row is the Rust's, or what is wrong; of an invalid row ours is empty. Long ones have groups of
+    /// their own.
+    fn writes(&self, i: usize, rows: &[u32], text: &StringTableEntry) -> Result<(), String> {
+        let right = match rows[i * ROW + 2] {
+            0 => text.value.as_bytes(),
+            _ => &[],
+        };
+        if right.len() > 1 << 12 {
+            return Ok(());
+        }
+        let mut out = vec![7; right.len()];
+        let lent = (out.as_mut_ptr(), out.len());
+        let code = text::make(self.storage, (rows.as_ptr(), rows.len()), i, lent);
+        match code == right.len() as u64 && out == right {
+            true => Ok(()),
+            false => Err(format!(
+                "of string {i} the text {:?} ({code:#x}), in the Rust {:?}",
+                String::from_utf8_lossy(&out),
+                text.value
+            )),
+        }
+    }
+
     /// The string whose pair is missing: so many the Rust still decodes, and not one more.
     fn first_missing(&self, runs: &[StringKindEntry], guess: u32) -> u32 {
         let strings = self.strings() as u32;
@@ -172,6 +196,7 @@ impl Compare for Case<'_> {
             let part = part(storage, rows, i).compare();
             part.map_err(|Difference(lines)| lines.join("; "))?;
             self.reads(i, row, text)?;
+            self.writes(i, rows, text)?;
         }
         Ok(())
     }

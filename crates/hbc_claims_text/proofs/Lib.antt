@@ -1,0 +1,5 @@
+pub mod Utf8
+pub mod Utf16
+pub mod Put
+pub mod Row
+pub mod Unique

@@ -1,0 +1,13 @@
+pub mod Laws
+pub mod Rows
+pub mod Formed
+pub mod Parts
+pub mod Cuts
+pub mod Codes
+pub mod Pairs
+pub mod Wide
+pub mod Bounds
+pub mod Counting
+pub mod Writing
+pub mod Alone
+pub mod Exits

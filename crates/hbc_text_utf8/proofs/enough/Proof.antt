@@ -1,0 +1,16 @@
+use Rattle.hbc_text_utf8.proofs.Measuring.{room-for-any}
+use borrow.Author.Needs.{needs}
+use Rattle.hbc_text_utf8.proofs.enough.Statement.{statement}
+use Rattle.hbc_text_utf8.proofs.enough.Tie as tie
+
+returns : tie.Need-returns
+returns c = room-for-any _ _ (c .if1 .taken)
+
+measure-requires : tie.Need-measure-requires
+measure-requires c κs = search needs
+
+returns-2 : tie.Need-returns-2
+returns-2 c = search needs
+
+pub enough-spec : {M : Type 1} → statement M
+enough-spec = tie.close (tie.spec returns measure-requires returns-2)
