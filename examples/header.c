@@ -1,7 +1,7 @@
 /* What include/hbc.h says besides its prototypes, as a caller meets it: names, what a refused call leaves, the two modes
- * of strings, a string's text, which LEB128 numbers are exact, what a refused refresh asks for, what stands for no large
- * header, what is written and what is not. C99 and C++. Prints nothing; at the first test that fails its line, and then
- * ends with status 1. */
+ * of strings, a string's text, why a function has no handlers, which LEB128 numbers are exact, what a refused refresh
+ * asks for, what stands for no large header, what is written and what is not. C99 and C++. Prints nothing; at the first
+ * test that fails its line, and then ends with status 1. */
 #include <stdio.h>
 #include <string.h>
 
@@ -128,6 +128,61 @@ static int texts(void)
     CHECK(is(hbc_string_text(bytes, 7, rows, words, 6, out, 0), "TOO_FEW_TO_READ"));
     CHECK(is(hbc_string_text(bytes, 7, rows, words, SIZE_MAX / 2, out, 0), "TOO_FEW_TO_READ"));
     CHECK(is(hbc_string_text(bytes, (size_t)HBC_LIMIT + 1, rows, words, 6, out, 0), "TOO_LONG"));
+    return 0;
+}
+
+/* No two answers of hbc_why_no_handlers have one number, or this is not compiled. */
+static const char *why_name(uint64_t code)
+{
+    switch (code) {
+    case HBC_WHY_SHOWN: return "SHOWN";
+    case HBC_WHY_FLAG_CLEAR: return "FLAG_CLEAR";
+    case HBC_WHY_INFO_ZERO: return "INFO_ZERO";
+    case HBC_WHY_INFO_PAST: return "INFO_PAST";
+    case HBC_WHY_NO_ROOM: return "NO_ROOM";
+    case HBC_WHY_COUNT_ZERO: return "COUNT_ZERO";
+    case HBC_WHY_COUNT_HIGH: return "COUNT_HIGH";
+    case HBC_WHY_CUT: return "CUT";
+    default: return "unnamed";
+    }
+}
+
+/* Each answer of a file that has at 4 the count 1 and a handler, at 20 the count 0, at 24 1001, at 28 2 with one handler
+ * and a byte. `*handlers` is written where they are shown, and by no other answer; that is where rows are listed. */
+static int handlers(void)
+{
+    static const struct { uint32_t info, flags; const char *why; } cases[] = {
+        {4, HBC_FLAG_HAS_EXCEPTION_HANDLER, "SHOWN"}, {1, UINT32_MAX, "SHOWN"},
+        {4, ~(uint32_t)HBC_FLAG_HAS_EXCEPTION_HANDLER, "FLAG_CLEAR"}, {0, 0, "FLAG_CLEAR"},
+        {0, HBC_FLAG_HAS_EXCEPTION_HANDLER, "INFO_ZERO"}, {45, HBC_FLAG_HAS_EXCEPTION_HANDLER, "INFO_PAST"},
+        {UINT32_MAX, HBC_FLAG_HAS_EXCEPTION_HANDLER, "INFO_PAST"}, {44, HBC_FLAG_HAS_EXCEPTION_HANDLER, "NO_ROOM"},
+        {41, HBC_FLAG_HAS_EXCEPTION_HANDLER, "NO_ROOM"}, {17, HBC_FLAG_HAS_EXCEPTION_HANDLER, "COUNT_ZERO"},
+        {24, HBC_FLAG_HAS_EXCEPTION_HANDLER, "COUNT_HIGH"}, {25, HBC_FLAG_HAS_EXCEPTION_HANDLER, "CUT"},
+    };
+    enum { COUNT = sizeof cases / sizeof *cases };
+    uint8_t file[45];
+    uint32_t rows[COUNT * HBC_FUNCTION_WORDS], listed[2 * HBC_HANDLER_WORDS], i, shown = 0, number = 99;
+    size_t total;
+    memset(file, 0, sizeof file);
+    file[4] = 1, file[24] = 1001 & 255, file[25] = 1001 >> 8, file[28] = 2;
+    memset(rows, 0xAB, sizeof rows);
+    for (i = 0; i < COUNT; i++) {
+        rows[i * HBC_FUNCTION_WORDS + HBC_FUNCTION_INFO_OFFSET] = cases[i].info;
+        rows[i * HBC_FUNCTION_WORDS + HBC_FUNCTION_FLAGS] = cases[i].flags;
+    }
+    for (i = 0; i < COUNT; i++) {
+        const uint64_t code = hbc_why_no_handlers(file, 45, rows, COUNT * HBC_FUNCTION_WORDS, i, &number);
+        CHECK(strcmp(why_name(code), cases[i].why) == 0 && number == (code == HBC_WHY_SHOWN ? 1 : 99));
+        shown += code == HBC_WHY_SHOWN;
+        number = 99;
+    }
+    CHECK(hbc_read_handlers(file, 45, rows, COUNT * HBC_FUNCTION_WORDS, COUNT, listed, 8, &total) == 0 && total == shown);
+    /* A word short of a row is no row. */
+    CHECK(is(hbc_why_no_handlers(file, 45, rows, HBC_FUNCTION_WORDS - 1, 0, &number), "TOO_FEW_TO_READ"));
+    CHECK(is(hbc_why_no_handlers(file, 45, rows, HBC_FUNCTION_WORDS, 1, &number), "TOO_FEW_TO_READ"));
+    CHECK(is(hbc_why_no_handlers(file, 45, rows, HBC_FUNCTION_WORDS, UINT32_MAX, &number), "TOO_FEW_TO_READ"));
+    CHECK(is(hbc_why_no_handlers(file, (size_t)HBC_LIMIT + 1, rows, 0, 0, &number), "TOO_LONG"));
+    CHECK(number == 99 && hbc_why_no_handlers(file, 0, rows, HBC_FUNCTION_WORDS, 0, &number) == HBC_WHY_INFO_PAST);
     return 0;
 }
 
@@ -317,5 +372,6 @@ static int version(void)
 
 int main(void)
 {
-    return refusals() || left() || modes() || texts() || marks() || refresh() || ground() || written() || version();
+    return refusals() || left() || modes() || texts() || handlers() || marks() || refresh() || ground() || written() ||
+           version();
 }

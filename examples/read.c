@@ -1,4 +1,5 @@
-/* Reads a function table, changes a byte, brings the table up to date; then strings, texts and literals. From the root:
+/* Reads a function table, changes a byte, brings the table up to date; then strings, texts, handlers and literals. From
+ * the root:
  * gcc -std=c99 -Wall -Wextra -pedantic -Iinclude examples/read.c "$(rust/archive)" -o read && ./read
  */
 #include <inttypes.h>
@@ -121,6 +122,27 @@ static int texts(void)
     return !refused("text in 4 bytes", hbc_string_text(bytes, sizeof bytes, rows, 3 * HBC_STRING_WORDS, 0, out, 4));
 }
 
+/* Of each function its handlers, or why it has none. */
+static int handlers(void)
+{
+    static const uint8_t bytes[] = {1, 0, 0, 0, 1, 0, 0, 0, 10, 0, 0, 0, 40, 0, 0, 0, 52, 0, 0, 0, 2, 0, 0, 0, 7, 7, 7, 7};
+    static const uint32_t info[] = {4, 20, 28, 0}; /* one handler, two that are cut, the end of the file, nothing */
+    uint32_t rows[4 * HBC_FUNCTION_WORDS] = {0};
+    for (uint32_t id = 0; id < 4; id++) {
+        uint32_t count = 0;
+        uint64_t code;
+        rows[id * HBC_FUNCTION_WORDS + HBC_FUNCTION_INFO_OFFSET] = info[id];
+        rows[id * HBC_FUNCTION_WORDS + HBC_FUNCTION_FLAGS] = HBC_FLAG_HAS_EXCEPTION_HANDLER;
+        code = hbc_why_no_handlers(bytes, sizeof bytes, rows, 4 * HBC_FUNCTION_WORDS, id, &count);
+        if (refused("why", code))
+            return 1;
+        printf("handlers of function %" PRIu32 ": %" PRIu32 "%s\n", id, count,
+               code == HBC_WHY_SHOWN ? "" : code == HBC_WHY_CUT ? ", they are cut"
+               : code == HBC_WHY_INFO_PAST ? ", its info_offset is past the end" : ", for another reason");
+    }
+    return 0;
+}
+
 static int literals(void)
 {
     static const uint8_t buffer[] = {0x72, 5, 0, 0, 0, 0xFF, 0xFF, 0xFF, 0xFF, 0x11}; /* two integers, then true */
@@ -141,5 +163,5 @@ static int literals(void)
 
 int main(void)
 {
-    return functions() || strings() || shared() || texts() || literals();
+    return functions() || strings() || shared() || texts() || handlers() || literals();
 }

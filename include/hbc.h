@@ -32,10 +32,10 @@
 
 /* What this header and its archive are: the two must be of one version, and no linker sees where they are not. Since
  * 0.2.0 hbc_read_uleb128, hbc_read_sleb128, hbc_read_length_prefixed_string and hbc_read_debug have one parameter more,
- * the last, `exact`; since 0.3.0 there is hbc_string_text. */
-#define HBC_VERSION "0.3.0"
+ * the last, `exact`; since 0.3.0 there is hbc_string_text, since 0.4.0 hbc_why_no_handlers. */
+#define HBC_VERSION "0.4.0"
 #define HBC_VERSION_MAJOR 0
-#define HBC_VERSION_MINOR 3
+#define HBC_VERSION_MINOR 4
 #define HBC_VERSION_PATCH 0
 
 /* The refusal's number in an answer, 0 if it was accepted; and its place. */
@@ -362,11 +362,33 @@ uint64_t hbc_read_object(const uint8_t *keys, size_t keys_len, const uint8_t *va
  * functions rising.
  *
  * A function has none if bit 3 of its flags is clear, if info_offset is 0 or at or past the end, if its place rounded
- * up to 4 leaves no 4 bytes, if the count there is 0 or above 1000, or if one of its handlers is cut.
+ * up to 4 leaves no 4 bytes, if the count there is 0 or above 1000, or if one of its handlers is cut;
+ * hbc_why_no_handlers says which.
  * Accepted, the answer is 0, and `*total` the number of rows; words past them stay.
  * Refused 1; 11 if fewer than `count` function rows are lent; 4 if there are more handlers than rows of four words. */
 uint64_t hbc_read_handlers(const uint8_t *file, size_t file_len, const uint32_t *functions, size_t functions_len,
                            uint32_t count, uint32_t *rows, size_t rows_len, size_t *total);
+
+/* Answers of hbc_why_no_handlers: handlers are shown, or why there are none, the reasons in the order in which they are
+ * looked for. A reason is an answer, not a refusal: HBC_NUMBER of it is 0. */
+#define HBC_WHY_SHOWN 0
+#define HBC_WHY_FLAG_CLEAR 1 /* bit 3 of its flags, HBC_FLAG_HAS_EXCEPTION_HANDLER, is clear */
+#define HBC_WHY_INFO_ZERO 2  /* its info_offset is 0, as of every modern function without a large header */
+#define HBC_WHY_INFO_PAST 3  /* its info_offset is at or past the end of the file */
+#define HBC_WHY_NO_ROOM 4    /* fewer than 4 bytes are left at info_offset rounded up to 4: no room for the count */
+#define HBC_WHY_COUNT_ZERO 5 /* the count there is 0 */
+#define HBC_WHY_COUNT_HIGH 6 /* it is above 1000 */
+#define HBC_WHY_CUT 7        /* so many handlers, 12 bytes each from behind the count on, are not all in the file */
+
+/* Whether function `id` has handlers, and else why it has none. `functions` holds rows as hbc_read_functions writes them;
+ * row `id` is the function's, whatever its id word says. Only its info_offset and flags are read, and may be any numbers.
+ *
+ * Accepted, the answer is HBC_WHY_SHOWN, or else the first of the reasons above that holds. HBC_WHY_SHOWN is answered
+ * exactly where hbc_read_handlers lists rows for the function, and `*handlers` is then how many, from 1 to 1000; for a
+ * reason `*handlers` stays as it was. It takes a bounded number of steps, whatever the file and the table are.
+ * Refused 1; 11 if there is no row `id`: `*handlers` stays then too. */
+uint64_t hbc_why_no_handlers(const uint8_t *file, size_t file_len, const uint32_t *functions, size_t functions_len,
+                             uint32_t id, uint32_t *handlers);
 
 /* The rows of hbc_trailing_sections. */
 #define HBC_REGEXP_TABLE 0

@@ -1,5 +1,5 @@
 // Handlers and trailing sections.
-ghost use Rattle.hbc_c_parsing.specs.Parsing.{ToldHandlers, ToldSections};
+ghost use Rattle.hbc_c_parsing.specs.Parsing.{ToldHandlers, ToldWhy, ToldSections};
 
 // Accepted, the answer is 0 and the number of rows is in `total`: functions may share handlers, so that it can be above 2^32 - 1.
 #[no_mangle]
@@ -16,6 +16,19 @@ pub extern "C" fn hbc_read_handlers(
         ⌝ }
 {
     hbc_c_parsing::read_handlers(file, functions, count, rows, total)
+}
+
+// Shown, the answer is 0 and `handlers` is how many; else it is the reason's number or the refusal, and `handlers` stays.
+#[no_mangle]
+pub extern "C" fn hbc_why_no_handlers(
+    file: &[u8],
+    functions: &[u32],
+    id: u32,
+    handlers: &mut u32,
+) -> u64
+    ensures { λ r. ⌜ ToldWhy (now (file .entry)) (now (functions .entry)) id (now (handlers .entry)) r (now (handlers .exit)) ⌝ }
+{
+    hbc_c_parsing::why_no_handlers(file, functions, id, handlers)
 }
 
 // Five rows of four words: start, size with padding, entries, and 1 for sources that are absent. Accepted, the answer is 5.

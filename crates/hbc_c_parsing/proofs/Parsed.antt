@@ -1,4 +1,4 @@
--- One law for each exit of the call on sections.
+-- The ways out of the call on reasons, and one law for each exit of the call on sections.
 use Prim.Native.Nat.{ℕ, _≤_, _<_, _^_}
 use mathlib.Core.Path.{_≡_, ap, sym, _∙_}
 use mathlib.Core.List.{List}
@@ -12,6 +12,8 @@ use Rattle.hbc_io.specs.Lends.{below}
 use Rattle.hbc_io.specs.declared.Cursor.{Cursor}
 use Rattle.hbc_io.specs.declared.Refusal.{Refusal}
 use Rattle.hbc_rows.specs.Rows.{rows}
+use Rattle.hbc_parsing_handlers.specs.declared.Explained.{Explained}
+use Rattle.hbc_parsing_handlers.specs.Why.{saysExplained, WhyNoHandlers}
 use Rattle.hbc_parsing_sections.specs.declared.Sections.{Sections}
 use Rattle.hbc_parsing_sections.specs.declared.Sources.{Sources}
 use Rattle.hbc_parsing_sections.specs.declared.Sources.the-variants as src
@@ -20,9 +22,18 @@ use Rattle.hbc_parsing_sections.specs.declared.ReadSections.the-variants as all
 use Rattle.hbc_parsing_sections.specs.Sections.{saysSections, sectionsAt}
 use Rattle.hbc_parsing_sections.specs.Laid.{Between, Laid}
 use Rattle.hbc_parsing_sections.proofs.Laid.{laid}
-use Rattle.hbc_c_code.specs.Code.{codeOf}
-use Rattle.hbc_c_parsing.specs.Parsing.{sectionWidth, sectionsInto, sectionsAnswer, ToldSections}
+use Rattle.hbc_c_code.specs.Code.{codeOf, codeIn}
+use Rattle.hbc_c_parsing.specs.Parsing.{whyNumber, handlersIn, ToldWhy, sectionWidth, sectionsInto, sectionsAnswer, ToldSections}
 use Rattle.hbc_c_parsing.specs.Private.{SourcesInWords, AllInWords}
+
+-- the answer a that came back, in the case b that it was found in
+pub why-told : {s functions : List ℕ} {id : ℕ} {a b : Explained} {before r after : ℕ} → WhyNoHandlers s functions id a → a ≡ b
+    → r ≡ codeIn whyNumber (saysExplained b) → after ≡ handlersIn (saysExplained b) before → ToldWhy s functions id before r after
+why-told {before = before} p e f g =
+    let z = ap saysExplained (sym e) ∙ p in
+    record { says = f ∙ ap (codeIn whyNumber) z; leaves = g ∙ ap (λ x. handlersIn x before) z }
+
+-- ---- sections
 
 told-got : {A : Type 0} (o : Outcome A) (v : A) → told o ≡ gives v → (n : Cursor) × (o ≡ got v n)
 told-got (got u n) v e = let z : u ≡ v = cc in (n, rw z)

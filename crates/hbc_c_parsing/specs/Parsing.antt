@@ -8,6 +8,9 @@ use Rattle.hbc_io.specs.Outcome.{limit}
 use Rattle.hbc_io.specs.Answer.{Answer, gives, refuses, refusedAt, told}
 use Rattle.hbc_io.specs.Lends.{below}
 use Rattle.hbc_rows.specs.Rows.{rows, putRow}
+use Rattle.hbc_parsing_handlers.specs.declared.Why.{Why}
+use Rattle.hbc_parsing_handlers.specs.declared.Why.the-variants as w
+use Rattle.hbc_parsing_handlers.specs.Why.{reasonNumber, whyAnswer}
 use Rattle.hbc_parsing_handlers.specs.Handlers.{saysListed, ReadHandlers}
 use Rattle.hbc_parsing_sections.specs.declared.Section.{Section}
 use Rattle.hbc_parsing_sections.specs.declared.Sources.{Sources}
@@ -20,6 +23,22 @@ use Rattle.hbc_c_code.specs.Told.{ToldValue}
 -- handlers: accepted, the answer is 0 and the number of rows is in a number of its own
 abbrev pub ToldHandlers : List ℕ → List ℕ → ℕ → List ℕ → ℕ → ℕ → List ℕ → ℕ → Type 0
 ToldHandlers s functions count before = ToldValue saysListed (ReadHandlers s functions count before)
+
+-- ---- why a function has none: 0 where they are shown, and then their number is in a number of its own; else the reason's number
+
+abbrev pub whyNumber : Why → ℕ
+whyNumber (w.Shown t) = 0
+whyNumber (w.Hidden x) = reasonNumber x
+
+-- what the number of its own holds: what it held where there is a reason, and where it is refused
+abbrev pub handlersIn : Answer Why → ℕ → ℕ
+handlersIn (gives (w.Shown t)) before = t .count
+handlersIn (gives (w.Hidden x)) before = before
+handlersIn (refuses r) before = before
+
+pub record ToldWhy (s functions : List ℕ) (id before r after : ℕ) : Type 0 where
+  pub says : r ≡ codeIn whyNumber (whyAnswer s functions id)
+  pub leaves : after ≡ handlersIn (whyAnswer s functions id) before
 
 -- ---- sections: five rows of start, size with padding, entries, and a mark that is 1 where sources are absent
 

@@ -1,12 +1,16 @@
 // Handlers and trailing sections for C and Rust, each behind an export of hbc_c.
 ghost use mathlib.Core.Path.{_≡_};
 ghost use Rattle.hbc_rows.specs.Rows.{putRow};
-ghost use Rattle.hbc_c_parsing.specs.Parsing.{sectionWidth, sectionWords, sourcesWords, sectionsInto, ToldHandlers, ToldSections};
+ghost use Rattle.hbc_parsing_handlers.specs.Why.{reasonNumber};
+ghost use Rattle.hbc_c_parsing.specs.Parsing.{sectionWidth, sectionWords, sourcesWords, sectionsInto, ToldHandlers, ToldWhy, ToldSections};
 ghost use Rattle.hbc_c_parsing.specs.Private.{InWords, SourcesInWords, AllInWords};
 use hbc_c_code::code;
 use hbc_io::LIMIT;
 use hbc_io::refuse;
+use hbc_parsing_handlers::Explained;
 use hbc_parsing_handlers::Listed;
+use hbc_parsing_handlers::Reason;
+use hbc_parsing_handlers::Why;
 use hbc_parsing_sections::ReadSections;
 use hbc_parsing_sections::Section;
 use hbc_parsing_sections::Sections;
@@ -32,6 +36,37 @@ pub fn read_handlers(
             0
         }
         Listed::Refused(r) => code(r),
+    }
+}
+
+// A reason by its place in their order.
+fn reason_number(x: Reason) -> u64
+    ensures { λ r. ⌜ r ≡ reasonNumber x ⌝ }
+{
+    match x {
+        Reason::FlagClear => 1,
+        Reason::InfoZero => 2,
+        Reason::InfoPast => 3,
+        Reason::NoRoom => 4,
+        Reason::CountZero => 5,
+        Reason::CountHigh => 6,
+        Reason::Cut => 7,
+    }
+}
+
+// Shown, the answer is 0 and `handlers` is how many; else it is the reason's number or the refusal, and `handlers` stays.
+pub fn why_no_handlers(file: &[u8], functions: &[u32], id: u32, handlers: &mut u32) -> u64
+    ensures { λ r. ⌜ ToldWhy (now (file .entry)) (now (functions .entry)) id (now (handlers .entry)) r (now (handlers .exit)) ⌝ }
+{
+    match hbc_parsing_handlers::why_no_handlers(file, functions, id) {
+        Explained::By(v) => match v {
+            Why::Shown(t) => {
+                *handlers = t.count;
+                0
+            }
+            Why::Hidden(x) => reason_number(x),
+        },
+        Explained::Refused(r) => code(r),
     }
 }
 

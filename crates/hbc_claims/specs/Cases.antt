@@ -1,6 +1,7 @@
 -- docs/FORMAT.md, section 10.1: the worked cases that are proved, P1 to P10, W1 to W5, of which Wn is Pn the other way round, H1 and H2, on which
--- the modes of decoding strings differ, and T1 to T8, texts, in one list under one statement. A case is any statement over the promises' definitions.
-use Prim.Native.Nat.{ℕ, zero, suc}
+-- the modes of decoding strings differ, T1 to T8, texts, and Y1 to Y8, why a function has no handlers, in one list under one statement. A case is any
+-- statement over the promises' definitions.
+use Prim.Native.Nat.{ℕ, zero, suc, _-_, _*_}
 use mathlib.Core.Path.{_≡_}
 use mathlib.Core.List.{List, [], _∷_, _++_}
 use lib.IntN.{pos, negsuc}
@@ -30,6 +31,11 @@ use Rattle.hbc_text_forms.specs.Utf16.{utf16Text}
 use Rattle.hbc_text_forms.specs.Text.{over, putAnswer}
 use Rattle.hbc_text.specs.StringText.{stringText}
 use Rattle.hbc_buffer.specs.Series.{seriesAnswer, seriesTables}
+use Rattle.hbc_parsing_handlers.specs.declared.Reason.the-variants as reason
+use Rattle.hbc_parsing_handlers.specs.declared.Why.{Why}
+use Rattle.hbc_parsing_handlers.specs.declared.Why.the-variants.{Shown, Hidden}
+use Rattle.hbc_parsing_handlers.specs.Why.{table, whyAnswer}
+use Rattle.hbc_c_parsing.specs.Parsing.{whyNumber}
 
 -- function 0 of the table at 0 (P1, P2, P5) is answered by `readFunction`, the packed place of a record (P3, P4) by `legacyPlace` and `modernPlace`
 
@@ -84,6 +90,14 @@ times (suc n) s = s ++ times n s
 abbrev pub PutsIn : List ℕ → ℕ → Answer ℕ → List ℕ → Type 0
 PutsIn s bytes answer after =
     (putAnswer (utf8Text s) s bytes ≡ answer) × (written (putAnswer (utf8Text s) s bytes) (over (utf8Text s) (replicate bytes 9)) (replicate bytes 9) ≡ after)
+
+-- a function with this info_offset and these flags, in a row whose other words are 9: why it has no handlers, or those that it has, and the export's number
+abbrev pub IsWhy : List ℕ → ℕ → ℕ → Why → ℕ → Type 0
+IsWhy s info flags v number = (whyAnswer s (replicate 6 9 ++ info ∷ 9 ∷ flags ∷ replicate (width - 9) 9) 0 ≡ gives v) × (whyNumber v ≡ number)
+
+-- 48 zeros, a count in two bytes, and so many zeros more
+abbrev pub counting : ℕ → ℕ → ℕ → List ℕ
+counting low high more = replicate 48 0 ++ low ∷ high ∷ replicate more 0
 
 abbrev pub cases : List {1} (Type 0)
 cases =
@@ -168,4 +182,29 @@ cases =
     ∷ PutsIn (0x61 ∷ 0xFF ∷ []) 4 (gives 4) (0x61 ∷ replacement)
     ∷ PutsIn (0x61 ∷ 0xFF ∷ []) 5 (gives 4) (0x61 ∷ replacement ++ 9 ∷ [])
     ∷ PutsIn (0x61 ∷ 0xFF ∷ []) 3 (refusedAt 4 0) (9 ∷ 9 ∷ 9 ∷ [])
+    -- Y1: every bit but bit 3 is set, and info_offset is 0 too; Y2: the bit is set; 0 is at the end of no bytes, too
+    ∷ IsWhy (replicate 64 0) 0 0xFFFFFFF7 (Hidden reason.FlagClear) 1
+    ∷ IsWhy (replicate 64 0) 0 8 (Hidden reason.InfoZero) 2
+    ∷ IsWhy [] 0 8 (Hidden reason.InfoZero) 2
+    -- Y3: info_offset is the file's length; or behind it, where there is no room either
+    ∷ IsWhy (replicate 64 0) 64 8 (Hidden reason.InfoPast) 3
+    ∷ IsWhy [] 1 8 (Hidden reason.InfoPast) 3
+    -- Y4: its last byte, and the first byte from which 64 is the next multiple of 4; and with one byte less in the file no room at 60 either
+    ∷ IsWhy (replicate 64 0) 63 8 (Hidden reason.NoRoom) 4
+    ∷ IsWhy (replicate 64 0) 61 8 (Hidden reason.NoRoom) 4
+    ∷ IsWhy (replicate 63 0) 60 8 (Hidden reason.NoRoom) 4
+    -- Y5: the last place with room for a count, which is 0
+    ∷ IsWhy (replicate 64 0) 60 8 (Hidden reason.CountZero) 5
+    ∷ IsWhy (replicate 64 0) 57 8 (Hidden reason.CountZero) 5
+    -- Y6: 1001 is too many, cut or not; Y7: 1000 is not
+    ∷ IsWhy (counting 0xE9 3 14) 45 8 (Hidden reason.CountHigh) 6
+    ∷ IsWhy (counting 0xE9 3 12014) 45 8 (Hidden reason.CountHigh) 6
+    ∷ IsWhy (counting 0xE8 3 14) 45 8 (Hidden reason.Cut) 7
+    ∷ IsWhy (counting 0xE8 3 12001) 45 8 (Hidden reason.Cut) 7
+    ∷ IsWhy (counting 0xE8 3 12002) 45 8 (Shown (table 1000 52)) 0
+    -- Y8: two triples, in files of 64, of 75 and of 76 bytes; a second function has no row, though all words of one but the last are lent
+    ∷ IsWhy (counting 2 0 14) 45 8 (Hidden reason.Cut) 7
+    ∷ IsWhy (counting 2 0 25) 45 8 (Hidden reason.Cut) 7
+    ∷ IsWhy (counting 2 0 26) 45 8 (Shown (table 2 52)) 0
+    ∷ (whyAnswer (counting 2 0 26) (replicate (2 * width - 1) 8) 1 ≡ refusedAt 11 0)
     ∷ []

@@ -1,4 +1,4 @@
--- docs/FORMAT.md, section 1.6, each part naming its own: every theorem on calls in full: the words in ten sections, and at the end the theorems
+-- docs/FORMAT.md, section 1.6, each part naming its own: every theorem on calls in full: the words in eleven sections, and at the end the theorems
 -- themselves, in one record, under the names in brackets; proofs/Proved proves them. The promises that they speak of (`ReadFunctions`, ..) are what the
 -- calls' contracts cite (docs/PROMISES.md), the terms are those of hbc_claims_law/specs/Terms. n is a cursor as a call leaves it, t′ a table.
 use Prim.Native.Nat.{ℕ, suc, _+_, _*_, _%_, _^_, _≤_, _<_}
@@ -47,11 +47,12 @@ use Rattle.hbc_reader.proofs.ByteReader.part as of-part
 use Rattle.hbc_function_record.specs.declared.Layout.{Layout}
 use Rattle.hbc_function_record.specs.declared.Legacy.{Legacy}
 use Rattle.hbc_function_record.specs.declared.Modern.{Modern}
+use Rattle.hbc_function_record.specs.declared.Record.{Record}
 use Rattle.hbc_function_record.specs.Record.{sizeOf, largeOf, largeAt, legacyPlace, modernPlace}
 use Rattle.hbc_function_record.specs.Row.{width}
 use Rattle.hbc_function_header.specs.declared.Reading.{Reading}
 use Rattle.hbc_function_header.specs.declared.Reading.the-variants as reading
-use Rattle.hbc_function_header.specs.Header.{saysReading, headerAt, recordAt, FunctionRow}
+use Rattle.hbc_function_header.specs.Header.{saysReading, headerAt, recordAt, functionAt, FunctionRow}
 use Rattle.hbc_function_header.specs.Meets.{overlap, meets}
 use Rattle.hbc_function.specs.declared.Refreshed.{Refreshed}
 use Rattle.hbc_function.specs.declared.Refreshed.the-variants as refreshed
@@ -83,7 +84,8 @@ use Rattle.hbc_buffer_object.specs.Object.{named as choice, objectPart, ReadObj
 use Rattle.hbc_parsing_handlers.specs.declared.Listed.the-variants as listed
 use Rattle.hbc_parsing_handlers.specs.declared.Table.{Table}
 use Rattle.hbc_parsing_handlers.specs.declared.Why.the-variants as reason
-use Rattle.hbc_parsing_handlers.specs.Why.{why, shown}
+use Rattle.hbc_parsing_handlers.specs.declared.Explained.{Explained}
+use Rattle.hbc_parsing_handlers.specs.Why.{why, shown, WhyNoHandlers}
 use Rattle.hbc_parsing_handlers.specs.Handlers.{handlerWidth, total, handlerRow, ReadHandlers}
 use Rattle.hbc_parsing_sections.specs.declared.Sections.{Sections}
 use Rattle.hbc_parsing_sections.specs.declared.ReadSections.the-variants as sections
@@ -107,7 +109,7 @@ use Rattle.hbc_c_function.specs.Function.{Places, ToldFunctions, ToldRefresh, T
 use Rattle.hbc_c_table.specs.Table.{ToldTable, ToldStrings}
 use Rattle.hbc_c_text.specs.Text.{ToldText}
 use Rattle.hbc_c_buffer.specs.Buffer.{ToldLiteral, ToldSeries, ToldObject}
-use Rattle.hbc_c_parsing.specs.Parsing.{ToldHandlers, ToldSections}
+use Rattle.hbc_c_parsing.specs.Parsing.{ToldHandlers, ToldWhy, ToldSections}
 use Rattle.hbc_c_debug.specs.Debug.{Lent as Numbers, ToldDebug}
 use Rattle.hbc_claims_law.specs.Law.{All}
 use Rattle.hbc_claims_law.specs.Terms.{Fits64, OrBit, lebLeft, textLeft, PrefixLeft, Behind, countOf}
@@ -129,6 +131,8 @@ use Rattle.hbc_claims_text.specs.Put.{Puts}
 use Rattle.hbc_claims_text.specs.Row.{OfRow, PutsRow}
 use Rattle.hbc_claims_text.specs.Unique as u-text
 use Rattle.hbc_claims_buffer.specs.Unique as u-buffer
+use Rattle.hbc_claims_parsing.specs.HandlerRows.{OfRecord}
+use Rattle.hbc_claims_parsing.specs.Why.{Explains, Lists}
 use Rattle.hbc_claims_parsing.specs.SectionPairs.{Fits, SourcesFit}
 use Rattle.hbc_claims_parsing.specs.SectionSizes.{Counted}
 use Rattle.hbc_claims_parsing.specs.Unique as u-parsing
@@ -137,11 +141,12 @@ use Rattle.hbc_claims_debug.specs.Left.{PastRows}
 use Rattle.hbc_claims_debug.specs.Marks.{Told}
 use Rattle.hbc_claims_debug.specs.Unique as u-debug
 use Rattle.hbc_claims_c.specs.Unique as u-c
+use Rattle.hbc_claims_c.specs.Why.{WhyTold}
 use Rattle.hbc_claims.specs.Cases.{cases}
 use Rattle.hbc_claims.specs.Unique as u-listing
 use Rattle.hbc_claims.specs.Records as u-records
 
--- ==== 1. The worked cases: P1 to P10, W1 to W5, H1 and H2, T1 to T8 of docs/FORMAT.md, section 10, each stated in Cases, one list (`worked`)
+-- ==== 1. The worked cases: P1 to P10, W1 to W5, H1 and H2, T1 to T8, Y1 to Y8 of docs/FORMAT.md, section 10, each stated in Cases, one list (`worked`)
 -- ==== 2. Uniqueness (`unique`) of every public call, by layers, and of every exported one: two outcomes that both meet its contract, as the checker has it,
 -- are equal: the answer, and every word or number that was lent to it; each by the one law of hbc_claims_law, what equals one thing is one thing
 pub record Unique : Type 0 where
@@ -257,7 +262,7 @@ pub record TablesLeft (k : Refusal) : Type 0 where
   -- read_object; and object_part hands back no bytes
   pub object : (keys values : List ℕ) (b : Bool) (offset count : ℕ) (ks ps : List ℕ) (o : Object) (ks′ ps′ : List ℕ)
       → ReadObject keys values b offset count ks ps o ks′ ps′ → (o .refusal .number ≡ 0 → ⊥) → (ks′ ≡ ks) × (ps′ ≡ ps) × (objectPart keys values o ≡ [])
-  -- read_handlers (trailing_sections is lent nothing)
+  -- read_handlers (why_no_handlers and trailing_sections are lent nothing)
   pub handlers : (s functions : List ℕ) (count : ℕ) (t t′ : List ℕ) → ReadHandlers s functions count t (listed.Refused k) t′ → t′ ≡ t
   pub read-debug : (file : List ℕ) (offset : ℕ) (t t′ : Tables) → ReadDebug file offset t (debugged.Refused k) t′ → t′ ≡ t
   pub write-strings : (s : List ℕ) (base : InFile) (count : ℕ) (t t′ : List ℕ) → WriteStrings s base count t (wrote.Refused k) t′ → t′ ≡ t
@@ -291,6 +296,8 @@ pub record ExportedLeft (s : List ℕ) (at r at′ : ℕ) : Type 1 where
       → (at′ ≡ at) × (kind′ ≡ kind) × (number′ ≡ number) × (word′ ≡ word)
   pub hbc-read-handlers : (functions : List ℕ) (count : ℕ) (t : List ℕ) {total total′ : ℕ} {t′ : List ℕ} → ToldHandlers s functions count t total r t′ total′
       → (t′ ≡ t) × (total′ ≡ total)
+  -- a reason is no refusal, and leaves it too
+  pub hbc-why-no-handlers : (functions : List ℕ) (id n : ℕ) {n′ : ℕ} → ToldWhy s functions id n r n′ → n′ ≡ n
   pub hbc-read-debug : (offset : ℕ) (t : Tables) (k : Numbers) {k′ : Numbers} {t′ : Tables} → ToldDebug s offset t k r t′ k′ → (t′ ≡ t) × (k′ ≡ k)
 
 -- the exported calls that answer a count or an end, where r tells a refusal, from 2^32 up: every lent word or byte is as it was; l is a layout's number
@@ -486,6 +493,19 @@ pub record Texts : Type 0 where
 -- of string_text, which puts the text of row k (`row-put`; in full `PutsRow`): the same, accepted exactly when the storage is not too long, the row is
 -- there and the text has room, else refused 1, then 11, then 4
 
+-- ==== 11. Why a function has no handlers (docs/FORMAT.md, section 6.1); each part stands in full in hbc_claims_parsing/specs/Why
+-- of why_no_handlers, asked for function id, which answers r (`explained`; in full `Explains`): it is refused 1 exactly where the file is too long, else 11
+-- exactly where the function has no row. Else it answers a reason exactly where that reason is true of the file and none before it in their order is: bit 3
+-- of its flags is clear; info_offset is 0; it is at or past the end; the four bytes at the first multiple of 4 from it on go past the end; their number, the
+-- count, is 0; it is above 1000; one of so many triples, 12 bytes each, behind it goes past the end (`Says`). And it answers that handlers are shown, with
+-- their number and the place of the first, exactly where no reason is true; the number is then the count, 1 to 1000, and all of them lie in the file (`Shows`)
+-- beside an accepted read_handlers of the same file and function rows, with a count above id, which lists n rows in t′ (`explained-rows`; in full `Lists`):
+-- handlers are shown exactly where one of the rows has the function's number as its first word, and exactly so many rows have it; for a reason none has
+-- in a table that read_functions read from the file, the two words of a row below the count that are looked at are info_offset and flags of that function's
+-- own record there (`explained-header`)
+-- hbc_why_no_handlers, which answers r and leaves n′ where n was, tells what why_no_handlers answers: 0 shown, n′ being how many; 1 to 7 the reasons in
+-- their order, else the refusal, n′ being n (`explained-told`; in full `WhyTold`)
+
 -- ==== The theorems
 pub record Theorems : Type 2 where
   pub worked : All cases
@@ -520,6 +540,13 @@ pub record Theorems : Type 2 where
       → ReadObject keys values b offset count ks ps o ks′ ps′ → o .refusal .number ≡ 0 → ObjectRead keys values b offset count ks ps o ks′ ps′
   pub handlers-read : (s functions : List ℕ) (count : ℕ) (t : List ℕ) (n : ℕ) (t′ : List ℕ)
       → ReadHandlers s functions count t (listed.Rows n) t′ → HandlersRead s functions count t n t′
+  pub explained : (s functions : List ℕ) (id : ℕ) (r : Explained) → WhyNoHandlers s functions id r → Explains s functions id r
+  pub explained-rows : (s functions : List ℕ) (id count : ℕ) (t : List ℕ) (r : Explained) (n : ℕ) (t′ : List ℕ) → id < count
+      → WhyNoHandlers s functions id r → ReadHandlers s functions count t (listed.Rows n) t′ → Lists id r n t′
+  pub explained-header : (s : List ℕ) (layout : Layout) (start count : ℕ) (t t′ : List ℕ) → ReadFunctions s layout start count t reading.Read t′
+      → (id : ℕ) → id < count → (own : Record) × (functionAt s layout start id ≡ gives own) × OfRecord own t′ id
+  pub explained-told : (s functions : List ℕ) (id n r n′ : ℕ) → ToldWhy s functions id n r n′
+      → (q : Explained) × WhyNoHandlers s functions id q × WhyTold q n r n′
   pub sections-read : (s : List ℕ) (start regexps storage cjs : ℕ) (given : Bool) (sources : ℕ) (v : Sections)
       → saysSections (sections.Got v) ≡ told (sectionsAt start regexps storage cjs given sources s) → SectionsRead s start regexps storage cjs given sources v
   pub debug-read : (file : List ℕ) (offset : ℕ) (t : Tables) (k : Counts) (e : Bool) (t′ : Tables)

@@ -40,6 +40,9 @@ use Rattle.hbc_buffer_literal.specs.Literal.{literalAt}
 use Rattle.hbc_buffer.specs.Series.{saysSeries, seriesAnswer}
 use Rattle.hbc_buffer.proofs.Exits.{apart}
 use Rattle.hbc_buffer_object.specs.Object.{named, objectOf, saysObject}
+use Rattle.hbc_parsing_handlers.specs.declared.Why.{Why}
+use Rattle.hbc_parsing_handlers.specs.declared.Why.the-variants as w
+use Rattle.hbc_parsing_handlers.specs.Why.{whyAnswer}
 use Rattle.hbc_parsing_sections.specs.declared.Sections.{Sections}
 use Rattle.hbc_io.proofs.Exits.{not-given}
 use Rattle.hbc_debug.specs.Debug.{Tables, saysDebug}
@@ -53,7 +56,7 @@ use Rattle.hbc_c_function.specs.Function.{Places, GroundTold, ToldFunctions, To
 use Rattle.hbc_c_function.proofs.ByLayouts.{by-layout}
 use Rattle.hbc_c_table.specs.Table.{ToldTable, ToldStrings}
 use Rattle.hbc_c_buffer.specs.Buffer.{yesOf, LiteralTold, ToldLiteral, ToldSeries, ToldObject}
-use Rattle.hbc_c_parsing.specs.Parsing.{sectionWidth, intoBy, sectionsAnswer, ToldHandlers, ToldSections}
+use Rattle.hbc_c_parsing.specs.Parsing.{whyNumber, handlersIn, sectionWidth, intoBy, sectionsAnswer, ToldHandlers, ToldWhy, ToldSections}
 use Rattle.hbc_c_debug.specs.Debug.{Lent as Numbers, saysLent, ToldDebug}
 use Rattle.hbc_claims_law.specs.Terms.{countOf, lebLeft, textLeft, PrefixLeft}
 use Rattle.hbc_claims_io.proofs.Left.{plain-left, number-left, bytes-left, seek-left, align-left, leb-left, zero-left, prefix-left}
@@ -287,6 +290,15 @@ debug-refused (debugged.Refused r) k e = cc
 pub hbc-debug : (file : List ℕ) (offset : ℕ) (before : Tables) (held : Numbers) {r : ℕ} {numbers : Numbers} {after : Tables} → (r ≡ 0 → ⊥)
     → ToldDebug file offset before held r after numbers → (after ≡ before) × (numbers ≡ held)
 hbc-debug file offset before held h = value-kept debug-refused h
+
+-- hbc_why_no_handlers: also where it tells a reason
+why-kept : (a : Answer Why) (n : ℕ) → (codeIn whyNumber a ≡ 0 → ⊥) → handlersIn a n ≡ n
+why-kept (gives (w.Shown t)) n h = absurd (h refl)
+why-kept (gives (w.Hidden x)) n h = refl
+why-kept (refuses k) n h = refl
+
+pub hbc-why : (s functions : List ℕ) (id n : ℕ) {r n′ : ℕ} → (r ≡ 0 → ⊥) → ToldWhy s functions id n r n′ → n′ ≡ n
+hbc-why s functions id n h v = v .leaves ∙ why-kept (whyAnswer s functions id) n (λ e. h (v .says ∙ e))
 
 -- hbc_trailing_sections
 sections-kept : (a : Answer Sections) (t : List ℕ) → 2 ^ 32 ≤ codeIn (always 5) a → intoBy a t ≡ t

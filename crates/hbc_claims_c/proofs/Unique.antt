@@ -77,6 +77,7 @@ unique = record {
   hbc_read_series = λ k a r q s u e f. both (told.alone (λ x y. alone oneSeries) e f);
   hbc_read_object = λ k a r q s u e f. both (told.alone (λ x y. alone (λ v w h. h)) e f);
   hbc_read_handlers = λ k a r q s u. told.value-alone (λ x y. alone oneListed);
+  hbc_why_no_handlers = λ k a r q s u e f. (same (e .says) (f .says), same (e .leaves) (f .leaves));
   hbc_trailing_sections = λ k a r q s u e f. (same (e .says) (f .says), same (e .leaves) (f .leaves));
   hbc_read_debug = λ k a r q s u. told.value-alone (λ x y. alone oneDebugged);
 }

@@ -38,6 +38,7 @@ use Rattle.hbc_c.proofs.buffer.hbc_read_literal.Reads as of-read-literal
 use Rattle.hbc_c.proofs.buffer.hbc_read_series.Reads as of-read-series
 use Rattle.hbc_c.proofs.buffer.hbc_read_object.Reads as of-read-object
 use Rattle.hbc_c.proofs.parsing.hbc_read_handlers.Reads as of-read-handlers
+use Rattle.hbc_c.proofs.parsing.hbc_why_no_handlers.Reads as of-why-no-handlers
 use Rattle.hbc_c.proofs.parsing.hbc_trailing_sections.Reads as of-trailing-sections
 use Rattle.hbc_c.proofs.debug.hbc_read_debug.Reads as of-read-debug
 
@@ -80,6 +81,7 @@ pub record Unique : Type 0 where
   pub hbc_read_series : Both2 of-read-series.Learnt (λ s. now (s .1 .1 .1 .0)) (λ s. now (s .1 .1 .1 .1 .0))
   pub hbc_read_object : Both2 of-read-object.Learnt (λ s. now (s .1 .1 .1 .1 .1 .0)) (λ s. now (s .1 .1 .1 .1 .1 .1 .0))
   pub hbc_read_handlers : Both2 of-read-handlers.Learnt (λ s. now (s .1 .1 .1 .0)) (λ s. now (s .1 .1 .1 .1 .0))
+  pub hbc_why_no_handlers : Both of-why-no-handlers.Learnt (λ s. now (s .1 .1 .1 .0))
   pub hbc_trailing_sections : Both of-trailing-sections.Learnt (λ s. now (s .1 .1 .1 .1 .1 .1 .1 .0))
   pub hbc_read_debug :
       Both2 of-read-debug.Learnt

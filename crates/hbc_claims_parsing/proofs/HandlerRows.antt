@@ -7,11 +7,15 @@ use native.Mathlib.Omega.{arith}
 use lib.ListN.{length, getD}
 use lib.Dec.{ltb, eqb}
 use borrow.Author.Tests.{eqb-true, eqb-false, ltb-true, ltb-false}
+use Rattle.hbc_io.specs.Outcome.{limit}
 use Rattle.hbc_io.specs.Answer.{gives}
 use Rattle.hbc_io.proofs.Exits.{reached, not-given}
 use Rattle.hbc_rows.specs.Rows.{entryAt, rowAt, rows, putRows}
 use Rattle.hbc_rows.proofs.RowsAt as at
-use Rattle.hbc_function_record.specs.Row.{legacyWords, modernWords}
+use Rattle.hbc_function_record.specs.declared.Record.{Record}
+use Rattle.hbc_function_record.specs.declared.Record.the-variants as rec
+use Rattle.hbc_function_record.specs.Record.{flagsOf}
+use Rattle.hbc_function_record.specs.Row.{width, ROW_INFO_OFFSET, ROW_FLAGS, legacyWords, modernWords, rowWords}
 use Rattle.hbc_parsing_handlers.specs.declared.Table.{Table}
 use Rattle.hbc_parsing_handlers.specs.declared.Why.{Why}
 use Rattle.hbc_parsing_handlers.specs.declared.Why.the-variants as w
@@ -20,11 +24,17 @@ use Rattle.hbc_parsing_handlers.specs.declared.Listed.the-variants as l
 use Rattle.hbc_parsing_handlers.specs.Handlers.{handlerWidth, total, handlerRow, putHandlers, handlersAnswer, ReadHandlers}
 use Rattle.hbc_parsing_handlers.proofs.Laws.{good, row-length, row-short, handlers-length}
 use Rattle.hbc_claims_law.specs.Terms.{Behind, Whose}
-use Rattle.hbc_claims_parsing.specs.HandlerRows.{HeaderWords}
+use Rattle.hbc_claims_parsing.specs.HandlerRows.{OfRecord, HeaderWords}
+
+pub of-record : (r : Record) {t : List ℕ} {i : ℕ} → entryAt t (i * width + ROW_INFO_OFFSET) ≡ getD (rowWords r) ROW_INFO_OFFSET 0
+    → entryAt t (i * width + ROW_FLAGS) ≡ getD (rowWords r) ROW_FLAGS 0 → OfRecord r t i
+unfolding legacyWords modernWords flagsOf
+of-record (rec.Legacy r) e f = record { info = e; flags = f }
+of-record (rec.Modern r) e f = record { info = e; flags = f }
 
 pub header-words : HeaderWords
-unfolding legacyWords modernWords entryAt
-header-words = record { legacy = λ r. (refl, refl); modern = λ r. (refl, refl) }
+unfolding entryAt
+header-words r = of-record r {t = rowWords r} {i = 0} refl refl
 
 -- a word outside the rows that are put is as it was
 rows-other : (f : ℕ → List ℕ) → ((j : ℕ) → length (f j) ≤ handlerWidth) → (base n y : ℕ) (t : List ℕ) → (base * handlerWidth ≤ y → y < (base + n) * handlerWidth → ⊥)
@@ -52,7 +62,7 @@ module _ (s functions : List ℕ) where
 
   -- ---- where they lie
 
-  total-more : (i : ℕ) → total s functions (suc i) ≡ total s functions i + shown s functions i .count
+  pub total-more : (i : ℕ) → total s functions (suc i) ≡ total s functions i + shown s functions i .count
   unfolding total
   total-more i = refl
 
@@ -116,7 +126,7 @@ module _ (s functions : List ℕ) where
         (λ m q r. omega arith)
         ∙ p (omega arith)
 
-    word-is : (n i j c : ℕ) → total s functions n ≤ rows handlerWidth t → i < n → j < shown s functions i .count → c < handlerWidth
+    pub word-is : (n i j c : ℕ) → total s functions n ≤ rows handlerWidth t → i < n → j < shown s functions i .count → c < handlerWidth
         → getD (putHandlers s functions n t) ((total s functions i + j) * handlerWidth + c) 0 ≡ getD (ofFunction i j) c 0
     word-is zero i j c l h o k = absurd (omega arith)
     word-is (suc n) i j c l h o k = word-step n i j c (eqb i n) refl l h o k (λ q. word-is n i j c (omega (arith, total-more n)) q o k)
@@ -132,9 +142,11 @@ module _ (s functions : List ℕ) where
 
 -- ---- from the call's promise
 
-record Accepted (s functions : List ℕ) (count room n : ℕ) : Type 0 where
-  all : n ≡ total s functions count
-  holds : total s functions count ≤ room
+pub record Accepted (s functions : List ℕ) (count room n : ℕ) : Type 0 where
+  pub short : length s ≤ limit
+  pub lent : count ≤ rows width functions
+  pub all : n ≡ total s functions count
+  pub holds : total s functions count ≤ room
 
 accept : (s functions : List ℕ) (count room n : ℕ) → handlersAnswer s functions count room ≡ gives n → Accepted s functions count room n
 unfolding handlersAnswer
@@ -142,10 +154,10 @@ accept s functions count room n e =
     let p = reached _ _ _ _ not-given e in
     let q = reached _ _ _ _ not-given (p .1) in
     let r = reached _ _ _ _ not-given (q .1) in
-    record { all = cc (r .1); holds = r .0 }
+    record { short = p .0; lent = q .0; all = cc (r .1); holds = r .0 }
 
 module _ (s functions : List ℕ) (count : ℕ) (t : List ℕ) (n : ℕ) (t′ : List ℕ) (v : ReadHandlers s functions count t (l.Rows n) t′) where
-  ok : Accepted s functions count (rows handlerWidth t) n
+  pub ok : Accepted s functions count (rows handlerWidth t) n
   ok = accept s functions count (rows handlerWidth t) n (sym (v .says))
 
   -- the answer is how many rows there are

@@ -1,5 +1,6 @@
 pub mod Cases
 pub mod Unique
 pub mod HandlerRows
+pub mod Why
 pub mod SectionPairs
 pub mod SectionSizes

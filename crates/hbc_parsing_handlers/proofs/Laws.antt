@@ -6,15 +6,15 @@ use mathlib.Core.Bool.{Bool, true, false, cond}
 use native.Mathlib.Omega.{arith}
 use native.Mathlib.Numerals.{add-one}
 use lib.ListN.{length}
-use lib.Dec.{ltb}
-use borrow.Author.Tests.{lt-ltb, le-ltb, ne-eqb, ltb-true, ltb-false, eqb-false}
-use Rattle.hbc_bits.specs.Bits.{leAt}
+use lib.Dec.{ltb, eqb}
+use borrow.Author.Tests.{le-ltb, le-leb, lt-leb, ne-eqb, ltb-true, ltb-false, eqb-false}
+use Rattle.hbc_bits.specs.Bits.{leAt, field}
 use Rattle.hbc_io.specs.Outcome.{got, refused, cursorAt, limit}
 use Rattle.hbc_io.specs.Lends.{below, choose}
 use Rattle.hbc_io.specs.Plain.{wordAt, alignTo, alignedUp}
 use Rattle.hbc_io.specs.declared.Cursor.{Cursor}
 use Rattle.hbc_io.specs.declared.Refusal.{Refusal}
-use Rattle.hbc_io.proofs.Exits.{not-below}
+use Rattle.hbc_io.proofs.Exits.{not-below, is-chosen, not-chosen}
 use Rattle.hbc_io.proofs.Reading.{not-both}
 use Rattle.hbc_io.proofs.Plains.{word-there}
 use Rattle.hbc_rows.specs.Rows.{putRow, putRows}
@@ -32,6 +32,16 @@ use Rattle.hbc_parsing_handlers.specs.Private.{Found}
 pub table-is : (s : List ℕ) (at : ℕ) {n : ℕ} {v : Why} → at + 4 ≤ length s → n ≡ wordAt 4 s at → v ≡ counted s at n → v ≡ tableAt s at
 unfolding tableAt
 table-is s at h e p = not-below _ _ _ _ h (p ∙ ap (counted s at) (e ∙ word-there 4 s at h))
+
+-- an info_offset that is not 0: at or past the end, or in the file, however the two were compared
+module _ (s : List ℕ) (info flags : ℕ) {v : Why} (flag : eqb (field 3 1 flags) 0 ≡ false) (some : eqb info 0 ≡ false) where
+  pub info-past : length s ≤ info → v ≡ w.Hidden r.InfoPast → v ≡ whyAt s info flags
+  unfolding whyAt
+  info-past h e = not-chosen _ _ _ flag (not-chosen _ _ _ some (is-chosen _ _ _ (le-leb (length s) info h) e))
+
+  pub info-inside : info < length s → v ≡ tableAt s (alignedUp 4 info) → v ≡ whyAt s info flags
+  unfolding whyAt
+  info-inside h e = not-chosen _ _ _ flag (not-chosen _ _ _ some (not-chosen _ _ _ (lt-leb (length s) info h) e))
 
 -- ---- the place rounded up to 4 that is past the end
 

@@ -1,11 +1,12 @@
 // Exception handlers, after parsing.rs: why a function has none, and the rows of those that are there.
-// The reader counts and writes by one function that names the reason, so that what is listed and the reason cannot differ.
+// The reader counts and writes by one function that names the reason, `why_row`, and whoever asks for the reason asks the same one: what is listed
+// and the reason cannot differ.
 ghost use mathlib.Core.Path.{_≡_};
 ghost use Prim.Native.Nat.{_+_, _*_, _≤_, _<_, _^_};
 ghost use lib.ListN.{length};
 ghost use Rattle.hbc_io.specs.Outcome.{limit};
 ghost use Rattle.hbc_rows.specs.Rows.{putRows};
-ghost use Rattle.hbc_parsing_handlers.specs.Why.{handlerBytes, tableAt, whyAt, why};
+ghost use Rattle.hbc_parsing_handlers.specs.Why.{handlerBytes, tableAt, whyAt, why, WhyNoHandlers};
 ghost use Rattle.hbc_parsing_handlers.specs.Handlers.{handlerWidth, total, handlerRow, putHandlers, ReadHandlers};
 ghost use Rattle.hbc_parsing_handlers.specs.Private.{Found};
 use hbc_function_record::ROW_FLAGS;
@@ -46,6 +47,12 @@ pub enum Reason {
 pub enum Why {
     Shown(Table),
     Hidden(Reason),
+}
+
+// A function's handlers or the reason why it has none, or the refusal.
+pub enum Explained {
+    By(Why),
+    Refused(Refusal),
 }
 
 // So many rows, or the refusal.
@@ -107,6 +114,20 @@ fn why_row(file: &[u8], functions: &[u32], i: usize) -> Why
     let info = hbc_rows::word_of(functions, i * WIDTH + ROW_INFO_OFFSET);
     let flags = hbc_rows::word_of(functions, i * WIDTH + ROW_FLAGS);
     why_at(file, info, flags)
+}
+
+// Why function `id` has no handlers, or how many it has: row `id` is function `id`, and may be any numbers.
+pub fn why_no_handlers(file: &[u8], functions: &[u32], id: u32) -> Explained
+    ensures { λ r. ⌜ WhyNoHandlers (now (file .entry)) (now (functions .entry)) id r ⌝ }
+{
+    let i = id as usize;
+    if LIMIT < file.len() {
+        return Explained::Refused(hbc_io::refuse(1, 0));
+    }
+    if functions.len() / WIDTH <= i {
+        return Explained::Refused(hbc_io::refuse(11, 0));
+    }
+    Explained::By(why_row(file, functions, i))
 }
 
 // Its handlers: none for every reason.

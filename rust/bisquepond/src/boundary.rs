@@ -473,6 +473,18 @@ pub(crate) fn read_handlers(
     Refusal::check(code, Place::Nothing).map(|_| total)
 }
 
+/// The answer's number, 0 where handlers are shown; and how many are, 0 where there is a reason.
+pub(crate) fn why_no_handlers(
+    file: &[u8],
+    functions: &[FunctionRow],
+    id: u32,
+) -> Result<(u32, u32)> {
+    let (s, len, functions) = (file.as_ptr(), file.len(), words_of(functions));
+    let (read, words, mut handlers) = (functions.as_ptr(), functions.len(), 0);
+    let code = unsafe { sys::hbc_why_no_handlers(s, len, read, words, id, &mut handlers) };
+    Refusal::check(code, Place::OneFunction).map(|why| (why, handlers))
+}
+
 /// The five sections, four words each.
 pub(crate) fn trailing_sections(
     file: &[u8],

@@ -22,7 +22,7 @@
 //! | [`function`] | function headers of both layouts, the refresh of a table after an edit, and edited rows written as headers |
 //! | [`table`] | tables of words and pairs, strings, and their texts |
 //! | [`literal`] | literals, series of them, and the keys and values of objects |
-//! | [`parsing`] | exception handlers and trailing sections |
+//! | [`parsing`] | exception handlers, why a function has none, and trailing sections |
 //! | [`debug`] | the debug section |
 //! | [`sys`] | the C calls themselves |
 //!

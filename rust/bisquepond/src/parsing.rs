@@ -1,17 +1,12 @@
-//! Exception handlers and the sections that follow the tables.
+//! Exception handlers, why a function has none, and the sections that follow the tables.
 
-use alloc::vec;
 use core::fmt;
-use core::slice;
 
 use crate::boundary;
 use crate::function::FunctionRow;
 use crate::{Result, Table};
 
 pub use crate::boundary::HandlerRow;
-
-/// The most handlers that one function can have.
-const MOST: usize = 1000;
 
 words! {
     HandlerRow,
@@ -42,7 +37,8 @@ impl fmt::Debug for HandlerRow {
 /// are read.
 ///
 /// A function has none if its flag is clear, if info_offset is 0 or at or past the end, if its place rounded up to 4
-/// leaves no 4 bytes, if the count there is 0 or above 1000, or if one of its handlers is cut.
+/// leaves no 4 bytes, if the count there is 0 or above 1000, or if one of its handlers is cut. [`why_no_handlers`] says
+/// which.
 ///
 /// # Errors
 ///
@@ -122,7 +118,126 @@ pub fn handlers_of(rows: &[HandlerRow], function: u32) -> &[HandlerRow] {
     &rows[..rows.partition_point(|row| row.function() == function)]
 }
 
-/// How many rows [`read_handlers`] would have.
+/// Each reason with its number and the words that say it.
+macro_rules! whys {
+    ($($(#[$doc:meta])* $name:ident = $number:literal, $words:literal;)*) => {
+        /// Why a function has no handlers, or how many it has: what [`why_no_handlers`] answers. Printed with `{}` it is a
+        /// sentence. In include/hbc.h the name of `FlagClear` is `HBC_WHY_FLAG_CLEAR`, and so on.
+        ///
+        /// ```
+        /// use bisquepond::parsing::Why;
+        ///
+        /// assert_eq!(Why::Shown(1).to_string(), "it has 1 handler");
+        /// assert_eq!(Why::InfoZero.to_string(), "it has no handlers: its info_offset, word 6 of its row, is 0");
+        /// ```
+        #[derive(Clone, Copy, PartialEq, Eq, Hash, Debug)]
+        pub enum Why {
+            /// It has so many handlers, from 1 to 1000, and [`read_handlers`] lists them.
+            Shown(u32),
+            $($(#[$doc])* $name,)*
+        }
+
+        impl Why {
+            /// `number` is one that the archive answered.
+            fn of(number: u32, handlers: u32) -> Why {
+                match number {
+                    0 => Why::Shown(handlers),
+                    $($number => Why::$name,)*
+                    _ => unreachable!("a reason of number {number}"),
+                }
+            }
+
+            /// The number that include/hbc.h has for it: 0 shown, and from 1 to 7 the reasons, in the order in which they are
+            /// looked for.
+            ///
+            /// ```
+            /// use bisquepond::parsing::Why;
+            ///
+            /// assert_eq!((Why::Shown(3).number(), Why::FlagClear.number(), Why::Cut.number()), (0, 1, 7));
+            /// ```
+            pub const fn number(self) -> u32 {
+                match self {
+                    Why::Shown(_) => 0,
+                    $(Why::$name => $number,)*
+                }
+            }
+
+            /// How many handlers the function has: 0 for every reason.
+            ///
+            /// ```
+            /// use bisquepond::parsing::Why;
+            ///
+            /// assert_eq!((Why::Shown(3).handlers(), Why::Cut.handlers()), (3, 0));
+            /// ```
+            pub const fn handlers(self) -> u32 {
+                match self {
+                    Why::Shown(handlers) => handlers,
+                    $(Why::$name)|* => 0,
+                }
+            }
+        }
+
+        impl fmt::Display for Why {
+            fn fmt(&self, f: &mut fmt::Formatter<'_>) -> fmt::Result {
+                let words = match self {
+                    Why::Shown(1) => return f.write_str("it has 1 handler"),
+                    Why::Shown(handlers) => return write!(f, "it has {handlers} handlers"),
+                    $(Why::$name => $words,)*
+                };
+                write!(f, "it has no handlers: {words}")
+            }
+        }
+    };
+}
+
+whys! {
+    /// Bit 3 of its flags is clear.
+    FlagClear = 1, "bit 3 of its flags, word 8 of its row, which says that it has some, is clear";
+    /// Its info_offset is 0, as of every modern function without a large header.
+    InfoZero = 2, "its info_offset, word 6 of its row, is 0";
+    /// Its info_offset is at or past the end of the file.
+    InfoPast = 3, "its info_offset, word 6 of its row, is at or past the end of the file";
+    /// Fewer than 4 bytes are left at info_offset rounded up to a multiple of 4.
+    NoRoom = 4, "at its info_offset, rounded up to a multiple of 4, fewer than the 4 bytes of a count are left";
+    /// The count there is 0.
+    CountZero = 5, "the count at its info_offset, rounded up to a multiple of 4, is 0";
+    /// The count there is above 1000.
+    CountHigh = 6, "the count at its info_offset, rounded up to a multiple of 4, is above 1000";
+    /// The handlers, 12 bytes each from behind the count on, are not all in the file.
+    Cut = 7, "the handlers that the count at its info_offset, rounded up to a multiple of 4, announces, 12 bytes each, are not all in the file";
+}
+
+/// How many handlers function `id` has, or why it has none: the first reason that holds. Row `id` of `functions` is the
+/// function's, whatever its id says; only info_offset and flags are read. It is `Shown` exactly where [`read_handlers`]
+/// lists rows for the function. Nothing is allocated, and the time does not grow with file or table.
+///
+/// # Errors
+///
+/// `TooLong`; `TooFewToRead` if there is no row `id`.
+///
+/// ```
+/// use bisquepond::{Row, function::FunctionRow, parsing::{self, Why}};
+///
+/// // At byte 4 stand the count 2 and one handler and a half.
+/// let mut file = [0; 26];
+/// file[4] = 2;
+/// let row = |info_offset, flags| [0, 0, 0, 0, 0, 0, info_offset, 0, flags, 0, 0, 0, 0, 0, 0, 0];
+/// let words = [row(4, 8), row(4, 0), row(26, 8)].concat();
+/// let functions = FunctionRow::rows(&words);
+/// assert_eq!(parsing::why_no_handlers(&file, functions, 0)?, Why::Cut);
+/// assert_eq!(parsing::why_no_handlers(&file, functions, 1)?, Why::FlagClear);
+/// assert_eq!(parsing::why_no_handlers(&file, functions, 2)?, Why::InfoPast);
+/// assert_eq!(parsing::why_no_handlers(&file, functions, 3).unwrap_err().number, 11);
+/// file[4] = 1;
+/// assert_eq!(parsing::why_no_handlers(&file, functions, 0)?, Why::Shown(1));
+/// # Ok::<(), bisquepond::Refusal>(())
+/// ```
+pub fn why_no_handlers(file: &[u8], functions: &[FunctionRow], id: u32) -> Result<Why> {
+    let (number, handlers) = boundary::why_no_handlers(file, functions, id)?;
+    Ok(Why::of(number, handlers))
+}
+
+/// How many rows [`read_handlers`] would have. Nothing is allocated: each function is asked for by [`why_no_handlers`].
 ///
 /// # Errors
 ///
@@ -144,13 +259,10 @@ pub fn count_handlers(file: &[u8], functions: &[FunctionRow], count: u32) -> Res
         // Refused 1 or 11, before any row is looked for.
         return boundary::read_handlers(file, functions, count, &mut []);
     };
+    // A file too long is refused where there is no function too.
     boundary::read_handlers(file, &[], 0, &mut [])?;
-    let mut room = vec![HandlerRow::default(); MOST];
-    let mut total = 0;
-    for row in listed.iter().filter(|row| row.has_handlers()) {
-        total += boundary::read_handlers(file, slice::from_ref(row), 1, &mut room)?;
-    }
-    Ok(total)
+    let shown = |id| Ok(why_no_handlers(file, listed, id)?.handlers() as usize);
+    (0..count).map(shown).sum()
 }
 
 /// Where a section lies.

@@ -49,6 +49,8 @@ pub(crate) enum Place {
     HermesString,
     /// Nothing: a row's text is asked for.
     Text,
+    /// Nothing: one of the functions whose rows are lent is asked about.
+    OneFunction,
     Entries,
     Values,
     Bytes,
@@ -253,7 +255,7 @@ impl fmt::Display for Refusal {
             (Reason::TooLong, Place::Text) => {
                 write!(f, "the storage has more than 2^30 bytes")
             }
-            (Reason::TooFewToRead, Place::Text) => {
+            (Reason::TooFewToRead, Place::Text | Place::OneFunction) => {
                 write!(f, "there is no row of the number that was asked for")
             }
             (Reason::TooFewRows, Place::Text) => {
@@ -338,6 +340,15 @@ mod tests {
             let told = (text.contains(word), other.contains(word));
             assert_eq!(told, (true, false), "{reason:?}");
         }
+    }
+
+    /// One row is asked for, and no count says anything.
+    #[test]
+    fn a_function_that_is_not_there_is_told() {
+        let said = |of| Refusal::of(Reason::TooFewToRead, 0, of).to_string();
+        let (one, all) = (said(Place::OneFunction), said(Place::Nothing));
+        assert!(one.contains("no row") && !one.contains("count"));
+        assert!(all.contains("count") && !all.contains("no row"));
     }
 
     #[test]

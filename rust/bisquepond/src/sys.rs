@@ -69,6 +69,7 @@ unsafe extern "C" {
     pub fn hbc_write_functions(rows: *const u32, rows_len: usize, layout: u32, start: usize, count: u32, large: usize, buffer: *mut u8, buffer_len: usize) -> u64;
 
     pub fn hbc_read_handlers(file: *const u8, file_len: usize, functions: *const u32, functions_len: usize, count: u32, rows: *mut u32, rows_len: usize, total: *mut usize) -> u64;
+    pub fn hbc_why_no_handlers(file: *const u8, file_len: usize, functions: *const u32, functions_len: usize, id: u32, handlers: *mut u32) -> u64;
     pub fn hbc_trailing_sections(file: *const u8, file_len: usize, start: usize, regexps: u32, storage: u32, cjs: u32, with_sources: bool, sources: u32, rows: *mut u32, rows_len: usize) -> u64;
 
     pub fn hbc_read_debug(file: *const u8, file_len: usize, offset: u32, strings: *mut u32, strings_len: usize, scopes: *mut u32, scopes_len: usize, names: *mut u32, names_len: usize, callees: *mut u32, callees_len: usize, string_count: *mut usize, scope_count: *mut usize, name_count: *mut usize, callee_count: *mut usize, exact: *mut u32) -> u64;

@@ -7,6 +7,7 @@ use std::fs;
 use std::path::{Path, PathBuf};
 
 use bisquepond::function::FunctionRow;
+use bisquepond::parsing::Why;
 use bisquepond::{Layout, Reason, Row, debug, function, parsing, sys, table};
 
 /// A call's name, and its parameters and answer as Rust declares them.
@@ -206,6 +207,31 @@ fn refusals_have_the_same_names() {
     let here = here.map(|reason| (upper(&format!("{reason:?}")), reason.number()));
     assert_eq!(in_c, here.collect());
     assert_eq!(in_c.len(), 15);
+}
+
+/// Every answer of `hbc_why_no_handlers` that the header names is one of the same name and number here, and the other way
+/// round.
+#[test]
+fn answers_why_have_the_same_names() {
+    let in_c: BTreeMap<String, u32> = constants()
+        .into_iter()
+        .filter_map(|(name, number)| Some((name.strip_prefix("WHY_")?.to_string(), number)))
+        .collect();
+    let all = [
+        Why::Shown(1),
+        Why::FlagClear,
+        Why::InfoZero,
+        Why::InfoPast,
+        Why::NoRoom,
+        Why::CountZero,
+        Why::CountHigh,
+        Why::Cut,
+    ];
+    // `Shown(1)` is `SHOWN`.
+    let name = |why: &Why| upper(format!("{why:?}").trim_end_matches("(1)"));
+    let here: BTreeMap<String, u32> = all.iter().map(|why| (name(why), why.number())).collect();
+    assert_eq!(in_c, here);
+    assert!(all.iter().map(|why| why.number()).eq(0..8));
 }
 
 /// A row of these words, counting from 0: each is the word of its own number.

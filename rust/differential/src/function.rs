@@ -2,7 +2,7 @@
 
 pub mod case;
 mod differences;
-mod groups;
+pub mod groups;
 mod hostile;
 mod record;
 

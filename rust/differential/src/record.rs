@@ -31,6 +31,7 @@ pub const FUNCTION_GROUND: u64 = 29;
 pub const WRITE_FUNCTIONS: u64 = 30;
 pub const DECODE_STRINGS_HERMES: u64 = 31;
 pub const STRING_TEXT: u64 = 32;
+pub const WHY_NO_HANDLERS: u64 = 33;
 
 /// No call: the records before it are counted, and told under the name that follows.
 const REPORT: u64 = 0;

@@ -57,6 +57,36 @@ pub fn rows(bench: &Bench) {
             (refused(4, 0), read)
         },
     );
+    row(
+        bench,
+        "why_no_handlers",
+        "any function, one handler anywhere in 64 MiB",
+        |n| why(ones(), n, anywhere, move |i| scattered(i, n), 0, 1),
+    );
+    row(
+        bench,
+        "why_no_handlers",
+        "one function in turn, file and table grow",
+        |n| {
+            // The last of so many functions, with a thousand handlers at the end of so many times 64 bytes.
+            let mut file = vec![0; 64 * n];
+            let at = file.len() - 4 - 12 * MOST;
+            file[at..at + 4].copy_from_slice(&(MOST as u32).to_le_bytes());
+            why(file, n, move |_| at, move |_| n - 1, 0, MOST)
+        },
+    );
+    row(
+        bench,
+        "why_no_handlers",
+        "the same, a byte too short for the last one",
+        |n| {
+            let mut file = vec![0; 64 * n];
+            let at = file.len() - 4 - 12 * MOST;
+            file[at..at + 4].copy_from_slice(&(MOST as u32).to_le_bytes());
+            file.pop();
+            why(file, n, move |_| at, move |_| n - 1, 7, 0)
+        },
+    );
     row(bench, "trailing_sections", "counts of any size", |n| {
         let file = vec![0; 64 * n];
         let mut rows = [0; 5 * ROW];
@@ -80,6 +110,42 @@ fn anywhere(i: usize) -> usize {
     4 + scattered(i, FAR / 4 - 8) * 4
 }
 
+/// Rows of functions whose handlers are at the places that `info` names.
+fn functions(count: usize, info: impl Fn(usize) -> usize) -> Vec<u32> {
+    let mut functions = vec![0; FUNCTION * count];
+    for (i, row) in functions.chunks_exact_mut(FUNCTION).enumerate() {
+        (row[6], row[8]) = (info(i) as u32, FLAG_HAS_EXCEPTION_HANDLER.into());
+    }
+    functions
+}
+
+/// As many calls as there are functions, each on the one that `id` names; every one answers this, and so many handlers.
+fn why(
+    file: Vec<u8>,
+    count: usize,
+    info: impl Fn(usize) -> usize,
+    id: impl Fn(usize) -> usize,
+    answer: u64,
+    handlers: usize,
+) -> (u64, impl FnMut() -> u64) {
+    let functions = functions(count, info);
+    let ask = move || {
+        let (s, len) = (file.as_ptr(), file.len());
+        let (rows, words) = (functions.as_ptr(), functions.len());
+        let mut shown = 0;
+        let sum = calls(count, |i| {
+            let mut number = 0;
+            let code =
+                unsafe { hbc_why_no_handlers(s, len, rows, words, id(i) as u32, &mut number) };
+            shown += number as usize;
+            code
+        });
+        assert_eq!(shown, handlers * count);
+        sum
+    };
+    (answer * count as u64, ask)
+}
+
 /// Functions whose handlers are at the places that `info` names, and so many rows, all of them used.
 fn handlers(
     file: Vec<u8>,
@@ -87,10 +153,7 @@ fn handlers(
     info: impl Fn(usize) -> usize,
     rows: usize,
 ) -> (u64, impl FnMut() -> u64) {
-    let mut functions = vec![0; FUNCTION * count];
-    for (i, row) in functions.chunks_exact_mut(FUNCTION).enumerate() {
-        (row[6], row[8]) = (info(i) as u32, FLAG_HAS_EXCEPTION_HANDLER.into());
-    }
+    let functions = functions(count, info);
     let mut lent = vec![0; ROW * rows];
     let read = move || {
         let mut total = rows;

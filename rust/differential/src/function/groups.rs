@@ -70,7 +70,7 @@ impl Table {
     }
 
     /// The packed place of function `id`, if it is flagged.
-    fn place(&self, id: u32) -> Option<u64> {
+    pub fn place(&self, id: u32) -> Option<u64> {
         let (_, header) = self.layout.header(&self.file, self.start, id)?;
         self.layout.place(header)
     }

@@ -2,7 +2,8 @@
 
 use bisquepond::function::FunctionRow;
 use bisquepond::parsing::{
-    read_handlers, read_handlers_into, trailing_sections, SectionCounts, Sections,
+    read_handlers, read_handlers_into, trailing_sections, why_no_handlers, SectionCounts, Sections,
+    Why,
 };
 use bisquepond::sys::LIMIT;
 use bisquepond::{Refusal, Row as _};
@@ -59,7 +60,15 @@ fn handlers(run: &mut Run) -> Compared {
     let short = read_handlers_into(&file, functions, 1, &mut []).map(drop);
     row(run, "one handler, no rows")
         .rust(rust(&file, &one), vec![[0, 1, 2, 3]])?
-        .ours(told(short), Err((4, 0)))
+        .ours(told(short), Err((4, 0)))?;
+    let why = |file: &[u8], row: &[u32]| told(why_no_handlers(file, FunctionRow::rows(row), 0));
+    row(run, "no handlers: the flag is clear")
+        .rust(rust(&[], &[[0; FUNCTION]]), vec![])?
+        .ours(why(&[], &[0; FUNCTION]), Ok(Why::FlagClear))?;
+    let cut = bytes_of(&[0, 2, 1, 2, 3]);
+    row(run, "no handlers: the second one is cut")
+        .rust(rust(&cut, &one), vec![])?
+        .ours(why(&cut, &one[0]), Ok(Why::Cut))
 }
 
 /// The Rust's file of nothing but these sections.

@@ -2,6 +2,7 @@
 
 pub mod handlers;
 pub mod sections;
+pub mod why;
 
 use super::differences;
 use crate::case::Compared;
@@ -9,12 +10,14 @@ use crate::run::Run;
 
 pub fn compare(run: &mut Run) -> Compared {
     handlers::compare(run)?;
+    why::compare(run)?;
     sections::compare(run)?;
     run.group("the differences that docs list", differences::listed)?;
     run.group("random", |run| {
         let mut random = run.random(20);
         while run.more() {
             handlers::random(run, &mut random)?;
+            why::table(run, &mut random)?;
             sections::random(run, &mut random)?;
         }
         Ok(())

@@ -5,10 +5,12 @@ use harness::Random;
 
 use super::case::handlers::{self, function, FUNCTION, HAS, ROW};
 use super::case::sections;
+use super::case::why::{self, Why, COUNT_HIGH, COUNT_ZERO, FLAG_CLEAR, SHOWN};
 use super::groups::handlers::{any as any_handlers, past_counting};
-use crate::case::{Compare, Compared, Difference};
+use crate::case::{Compare, Compared, Difference, Refusal};
 use crate::hostile::{file_of, size, Soak};
 use crate::inputs::fill;
+use crate::lent::{Number, Reserved};
 
 /// Functions of the cases that have many.
 const FUNCTIONS: usize = 1 << 20;
@@ -36,6 +38,7 @@ pub fn soak(soak: &mut Soak) -> Compared {
         })?;
     }
     shared(soak)?;
+    asked(soak)?;
     trailing(soak)?;
     soak.at_random(1 << 16, any)
 }
@@ -55,6 +58,63 @@ fn shared(soak: &mut Soak) -> Compared {
         let functions = function(4, HAS).repeat(COUNT);
         read(file, &functions, COUNT as u32, COUNT * 1000)
     })
+}
+
+/// Why of each of many functions anywhere in 2^30 bytes, one by one: what all of them answer, and one handler if any. Then
+/// functions that there are not, of no words, of 2^33, and of a file that is too long.
+fn asked(soak: &mut Soak) -> Compared {
+    let size = size(LIMIT, LIMIT + FUNCTIONS * 4 * FUNCTION);
+    for (name, piece, told) in [
+        ("why of each, one handler anywhere in 2^30 bytes", [1, 0, 0, 0], SHOWN),
+        ("why of each, counts of 2^32 - 1 anywhere", [0xFF; 4], COUNT_HIGH),
+        ("why of each, counts of 0 anywhere", [0; 4], COUNT_ZERO),
+    ] {
+        let mut random = soak.random(6);
+        soak.case(name, size, |file| {
+            fill(file, LIMIT, &piece);
+            let info = |random: &mut Random| 4 + random.below(LIMIT - 24) as u32;
+            let functions = (0..FUNCTIONS).map(|_| function(info(&mut random), HAS));
+            let functions: Vec<_> = functions.collect();
+            let words = functions.as_flattened();
+            for id in 0..FUNCTIONS as u32 {
+                of_many(file, (words.as_ptr(), words.len()), id, Ok(told))?;
+            }
+            Ok(format!("{told} of each"))
+        })?;
+    }
+    let words = 1 << 33;
+    let many = Reserved::<u32>::new(words).expect("addresses for a table of zeros");
+    let (last, many) = ((words / FUNCTION) as u32 - 1, (many.as_mut_ptr().cast_const(), words));
+    let (ones, none) = ([1, 0, 0, 0], <[u32; 0]>::default());
+    for (name, len, functions, id, told) in [
+        ("why of function 2^32 - 1 of 2^33 words", LIMIT, many, u32::MAX, Err((11, 0))),
+        ("why of the last of 2^33 words", LIMIT, many, last, Ok(FLAG_CLEAR)),
+        ("why of one past the last of 2^33 words", LIMIT, many, last + 1, Err((11, 0))),
+        ("why of function 0 of no words", LIMIT, (none.as_ptr(), 0), 0, Err((11, 0))),
+        ("why of function 0 of no words, no bytes", 0, (none.as_ptr(), 0), 0, Err((11, 0))),
+        ("why, 2^30 + 1 bytes, no words", LIMIT + 1, (none.as_ptr(), 0), 0, Err((1, 0))),
+        ("why, 2^30 + 1 bytes, 2^33 words", LIMIT + 1, many, last, Err((1, 0))),
+    ] {
+        soak.filled(name, (len, &ones), |file| of_many(file, functions, id, told))?;
+    }
+    Ok(())
+}
+
+/// One call on a table that is not copied, and what must be answered.
+fn of_many(
+    file: &[u8],
+    functions: (*const u32, usize),
+    id: u32,
+    told: Result<u32, Refusal>,
+) -> Result<String, Difference> {
+    let mut handlers = Number::new(7, 9);
+    let given = why::make(file, functions, id, handlers.lent());
+    let case = Why { file, functions: &[], id };
+    let said = case.told(given, told)?;
+    match handlers.held()? == if told == Ok(SHOWN) { 1 } else { 7 } {
+        true => Ok(said),
+        false => Err(case.difference("the number of handlers, where they are shown", "another")),
+    }
 }
 
 /// The Rust copies the file twice, and makes vectors of as many entries as there are.
@@ -99,6 +159,10 @@ fn any(random: &mut Random) -> Compared {
     let made = any_handlers(random);
     let count = random.pick(&[made.count, u32::MAX]);
     read(&made.file, &made.functions, count, random.below(40))?;
+    let (file, functions) = (&made.file, &made.functions);
+    for id in (0..made.count + 1).chain([u32::MAX]) {
+        Why { file, functions, id }.compare()?;
+    }
     let counts = [0; 4].map(|_| random.pick(&[0, 1, 2, u32::MAX, 1 << 29]));
     find(&made.file, random.below(12), counts, &[7; 20])?;
     Ok(())

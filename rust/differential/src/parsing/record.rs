@@ -1,5 +1,7 @@
 //! A sample of what is right of handlers and trailing sections.
 
+mod why;
+
 use harness::Random;
 
 use super::case::handlers::{self, function, FUNCTION, HAS};
@@ -9,8 +11,12 @@ use crate::case::code;
 use crate::inputs::{any_bytes, any_words};
 use crate::record::{Record, Sample, FILL, READ_HANDLERS, TRAILING_SECTIONS};
 
-const NAMES: [&str; 3] =
-    ["read_handlers", "trailing_sections, sources given", "trailing_sections, no sources"];
+const NAMES: [&str; 4] = [
+    "read_handlers",
+    "trailing_sections, sources given",
+    "trailing_sections, no sources",
+    "why_no_handlers",
+];
 
 /// The words for which the program has room, besides those that are not lent; and those of functions.
 const MOST_LENT: usize = 120;
@@ -19,6 +25,7 @@ const MOST_GIVEN: usize = 112;
 fn answers(group: usize) -> &'static [u32] {
     match group {
         0 => &[0, 4, 11],
+        why::GROUP => &[0, 11],
         _ => &[0, 2, 3, 4],
     }
 }
@@ -97,6 +104,7 @@ pub fn write(mut random: Random) -> (Vec<u8>, Vec<String>) {
     while sample.fewer(400) {
         any(&mut sample, &mut random);
     }
+    why::write(&mut sample, &mut random);
     sample.done(answers)
 }
 

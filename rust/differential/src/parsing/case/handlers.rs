@@ -42,6 +42,14 @@ pub struct Answer {
     rows: Vec<u32>,
 }
 
+impl Answer {
+    /// The rows that were written, as many as the total says.
+    pub fn rows(&self) -> &[[u32; ROW]] {
+        let (rows, _) = self.rows.as_chunks();
+        rows.get(..self.total).unwrap_or(&[])
+    }
+}
+
 /// What the total holds before a call, so that a refused one can be seen to have left it.
 const LENT: usize = 0xA5A5_A5A5_A5A5_A5A5;
 

@@ -58,7 +58,7 @@ fn worked(run: &mut Run) -> Compared {
 }
 
 /// Places that no file here has.
-const FAR: [u32; 7] =
+pub const FAR: [u32; 7] =
     [LIMIT as u32, u32::MAX - 4, u32::MAX - 3, u32::MAX - 2, u32::MAX - 1, u32::MAX, 1 << 31];
 
 /// Every length to 68, every place in it and behind it, and every count to 6 there.
