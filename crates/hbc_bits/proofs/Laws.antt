@@ -4,8 +4,7 @@ use mathlib.Core.Path.{_≡_, refl, sym, subst, ap, _∙_}
 use mathlib.Core.List.{List, [], _∷_, _++_}
 use native.Mathlib.Nat.{add-mul-div-left, add-mul-mod-self-left, mul-assoc, add-assoc, mul-add, zero-add, div-eq-of-lt, div-div-eq-div-mul, add-sub-of-le, pow-succ', one-mul, add-zero, mod-eq-of-lt, mod-lt, zero-mod, div-le-self, lt-of-le-of-lt, lt-of-lt-of-le, mul-mod-left, mul-suc}
 use native.Mathlib.Omega.{arith}
-use lib.Dec.{lit<}
-use lib.Pow.{pow-pos, pow-add, pow-mono, mod-pow-add, shl-shr, high, low}
+use lib.Pow.{pow-pos, pow-add, pow-mono, pow-lt, mod-pow-add, shl-shr, high, low}
 use lib.Bits.{bitOr, or-shr, or-mod, or-shifted-r}
 use lib.ListN.{length, getD, take, drop, length-drop}
 use lib.Seq.{take-add, drop-drop, drop-cons, length-take-le, getD-drop}
@@ -67,9 +66,9 @@ or-parts k j g v l h =
     let e : (k - j) + j ≡ k = omega arith in
     rw e at (or-above (k - j) j g v h)
 
--- a word with the one bit k set
-pub one-shl : (k : ℕ) → k < 64 → (1 * 2 ^ k) % 2 ^ 64 ≡ 2 ^ k
-one-shl k h = rw one-mul (mod-eq-of-lt (lt-of-le-of-lt (pow-mono {i = k} {j = 63} (omega arith)) (lit< tt)))
+-- a word of n bits with the one bit k set
+pub one-shl : (n k : ℕ) → k < n → (1 * 2 ^ k) % 2 ^ n ≡ 2 ^ k
+one-shl n k h = rw one-mul (mod-eq-of-lt (pow-lt h))
 
 -- ---- little-endian numbers
 

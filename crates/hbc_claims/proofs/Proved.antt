@@ -50,6 +50,7 @@ use Rattle.hbc_claims_io.proofs.Unique as u-io
 use Rattle.hbc_claims_io.proofs.Reader as u-reader
 use Rattle.hbc_claims_function.proofs.Meeting as meeting
 use Rattle.hbc_claims_function.proofs.Packed as packs
+use Rattle.hbc_claims_function.proofs.BitLayout as layouts
 use Rattle.hbc_claims_function.proofs.Refreshed as fresh
 use Rattle.hbc_claims_function.proofs.Tables.{filled, rewritten}
 use Rattle.hbc_claims_function.proofs.Unique as u-function
@@ -344,6 +345,8 @@ theorems = record {
   counted-left = counted-left;
   exact = exact;
   packing = packing;
+  covered = layouts.covered;
+  named = layouts.named;
   whole = whole;
   table-read = λ width s c count t n t′ v. table-read {width = width} {s = s} {c = c} {count = count} v;
   strings-read = strings-read;

@@ -48,6 +48,7 @@ use Rattle.hbc_function_record.specs.declared.Layout.{Layout}
 use Rattle.hbc_function_record.specs.declared.Legacy.{Legacy}
 use Rattle.hbc_function_record.specs.declared.Modern.{Modern}
 use Rattle.hbc_function_record.specs.declared.Record.{Record}
+use Rattle.hbc_function_record.specs.BitLayout.{fieldsIn}
 use Rattle.hbc_function_record.specs.Record.{sizeOf, largeOf, largeAt, legacyPlace, modernPlace}
 use Rattle.hbc_function_record.specs.Row.{width}
 use Rattle.hbc_function_header.specs.declared.Reading.{Reading}
@@ -119,6 +120,7 @@ use Rattle.hbc_claims_io.specs.Reader as u-reader
 use Rattle.hbc_claims_io.specs.Leb128.{MarkTells}
 use Rattle.hbc_claims_io.specs.Reader.{Lent, New, Position, Remaining, Seek, U32, Uleb128, Bytes, Part}
 use Rattle.hbc_claims_function.specs.Packed as packed
+use Rattle.hbc_claims_function.specs.BitLayout.{Covers, Named}
 use Rattle.hbc_claims_function.specs.Unique as u-function
 use Rattle.hbc_claims_function.specs.Written.{Written, ReadsBack, Headed, Kept, Placed}
 use Rattle.hbc_claims_table.specs.Unique as u-table
@@ -331,7 +333,7 @@ pub record Exact (bs : List ℕ) : Type 0 where
   -- of a number that was read, the mark `exact` is true exactly when the answer is that number, unsigned and signed
   pub mark : (s : List ℕ) (c n : Cursor) → lebBytes s c ≡ got bs n → MarkTells bs
 
--- ==== 6. Packed places and large headers (`packing`)
+-- ==== 6. Packed places and large headers (`packing`), and the bits of an inline one (`covered`, `named`)
 pub record Packed (s : List ℕ) (at i : ℕ) : Type 0 where
   -- bit b of a packed place is set exactly when it is set in one of its two parts
   pub legacy : (r : Legacy) (b : ℕ) → OrBit b (legacyPlace r) (r .«info_offset» * 65536) (r .offset)
@@ -341,6 +343,10 @@ pub record Packed (s : List ℕ) (at i : ℕ) : Type 0 where
   -- a flagged header is read from the large one at its packed place, whatever that one's own flags: they are a field, and are not followed
   pub large : (layout : Layout) → at + sizeOf layout ≤ length s → flagged s layout at ≡ true → packedAt s layout at + largeOf layout ≤ length s
       → recordAt s layout at i ≡ gives (largeAt s layout (packedAt s layout at) i)
+
+-- the fields of an inline header, of the two lists that readers and writer go by: they join without a gap from bit 0 to bit 127 in legacy, to bit 95 in
+-- modern, and every bit is one of a field, and of one alone (`covered`; Covers in hbc_claims_function/specs/BitLayout); each field of a record is what the
+-- bits that the list has under its name hold (`named`). legacy_bits and modern_bits answer the code's lists, and promise that they are these
 
 -- ==== 7. Definitions that count steps never stop early (`whole`)
 pub record Whole (s : List ℕ) (k : ℕ) : Type 0 where
@@ -525,6 +531,8 @@ pub record Theorems : Type 2 where
   pub counted-left : (s : List ℕ) (r : ℕ) → 2 ^ 32 ≤ r → CountedLeft s r
   pub exact : (bs : List ℕ) → Exact bs
   pub packing : (s : List ℕ) (at i : ℕ) → Packed s at i
+  pub covered : (layout : Layout) → Covers (fieldsIn layout) (8 * sizeOf layout)
+  pub named : (i n : ℕ) → Named i n
   pub whole : (s : List ℕ) (k : ℕ) → Whole s k
   pub table-read : (width : ℕ) (s : List ℕ) (c : Cursor) (count : ℕ) (t : List ℕ) (n : Cursor) (t′ : List ℕ)
       → ReadTable width s c count t (moved.To n) t′ → TableRead width s c count t n t′

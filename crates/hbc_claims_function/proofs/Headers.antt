@@ -21,7 +21,8 @@ use Rattle.hbc_function_record.specs.declared.Record.{Record}
 use Rattle.hbc_function_record.specs.declared.Record.the-variants as rec
 use Rattle.hbc_function_record.specs.Record.{sizeOf, largeOf, legacyBy, modernBy, legacyOf, modernOf, inlineOf, legacyLarge, modernLarge, largeAt, flagsOf, overflowed, legacyPlace, modernPlace, placeOf}
 use Rattle.hbc_function_record.specs.Row.{width, ROW_LAYOUT, ROW_ID, ROW_FLAGS, numberIn, legacyWords, modernWords, rowWords}
-use Rattle.hbc_function_bytes.specs.Bytes.{fieldsIn, sizesIn, wordsAt, valuesIn, infoFree, goesInline, inlineNumber, inlineBytes, largeBytes, pointerTo, each, byteWide, zerosIn, rightRow}
+use Rattle.hbc_function_record.specs.BitLayout.{fieldsIn}
+use Rattle.hbc_function_bytes.specs.Bytes.{sizesIn, wordsAt, valuesIn, infoFree, goesInline, inlineNumber, inlineBytes, largeBytes, pointerTo, each, byteWide, zerosIn, rightRow}
 use Rattle.hbc_function_bytes.proofs.Sums.{infoOf}
 use Rattle.hbc_function_write.specs.Write.{rounded, saysEnd}
 use Rattle.hbc_function_write.proofs.Plans.{row-listed}
@@ -73,7 +74,7 @@ large-by s lay.Modern12 at i = rw (add-zero at)
 -- ---- headers that stand
 
 -- the fields lie side by side, and fill the header
-side : (layout : Layout) → sideBySide 0 (fieldsIn layout) (8 * sizeOf layout) ≡ true
+pub side : (layout : Layout) → sideBySide 0 (fieldsIn layout) (8 * sizeOf layout) ≡ true
 unfolding sideBySide
 side lay.Legacy16 = refl
 side lay.Modern12 = refl

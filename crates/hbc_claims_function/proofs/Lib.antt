@@ -9,6 +9,7 @@ pub mod Tables
 pub mod Refreshed
 pub mod Packed
 pub mod Headers
+pub mod BitLayout
 pub mod Holds
 pub mod Unique
 pub mod Written

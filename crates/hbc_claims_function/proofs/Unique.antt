@@ -68,6 +68,8 @@ pub unique : Unique
 unique = record {
   header_size = λ k a r q s u. same;
   large_size = λ k a r q s u. same;
+  legacy_bits = λ k a r q s u. same;
+  modern_bits = λ k a r q s u. same;
   «inline_record» = λ k a r q s u. same;
   «large_record» = λ k a r q s u. same;
   header_link = λ k a r q s u. same;

@@ -4,5 +4,6 @@ pub mod Accepted
 pub mod Tables
 pub mod Refreshed
 pub mod Packed
+pub mod BitLayout
 pub mod Written
 pub mod Unique

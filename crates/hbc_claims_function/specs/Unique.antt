@@ -2,6 +2,8 @@
 use denote.Ref.{now}
 use Rattle.hbc_function_record.proofs.header_size.Reads as of-header-size
 use Rattle.hbc_function_record.proofs.large_size.Reads as of-large-size
+use Rattle.hbc_function_record.proofs.bit_layout.legacy_bits.Reads as of-legacy-bits
+use Rattle.hbc_function_record.proofs.bit_layout.modern_bits.Reads as of-modern-bits
 use Rattle.hbc_function_record.proofs.inline_record.Reads as of-inline-record
 use Rattle.hbc_function_record.proofs.large_record.Reads as of-large-record
 use Rattle.hbc_function_record.proofs.header_link.Reads as of-header-link
@@ -28,6 +30,8 @@ use Rattle.hbc_claims_law.specs.Law.{One, Words, Both}
 pub record Unique : Type 0 where
   pub header_size : One of-header-size.Learnt
   pub large_size : One of-large-size.Learnt
+  pub legacy_bits : One of-legacy-bits.Learnt
+  pub modern_bits : One of-modern-bits.Learnt
   pub «inline_record» : One of-inline-record.Learnt
   pub «large_record» : One of-large-record.Learnt
   pub header_link : One of-header-link.Learnt

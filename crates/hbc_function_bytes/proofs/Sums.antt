@@ -16,7 +16,8 @@ use Rattle.hbc_function_record.specs.declared.Layout.{Layout}
 use Rattle.hbc_function_record.specs.declared.Layout.the-variants as lay
 use Rattle.hbc_function_record.specs.Record.{overflowed}
 use Rattle.hbc_function_record.specs.Row.{ROW_LAYOUT, ROW_ID, ROW_INFO_OFFSET, ROW_FLAGS, numberIn}
-use Rattle.hbc_function_bytes.specs.Bytes.{fieldsIn, wordsAt, valuesIn, all, infoFree, goesInline, byteWide, zerosIn, each, rightRow}
+use Rattle.hbc_function_record.specs.BitLayout.{fieldsIn}
+use Rattle.hbc_function_bytes.specs.Bytes.{wordsAt, valuesIn, all, infoFree, goesInline, byteWide, zerosIn, each, rightRow}
 
 -- two tests that imply each other
 pub same-test : (a b : Bool) → (a ≡ true → b ≡ true) → (b ≡ true → a ≡ true) → a ≡ b

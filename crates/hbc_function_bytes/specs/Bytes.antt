@@ -7,7 +7,8 @@ use lib.Dec.{eqb, ltb}
 use Rattle.hbc_bits.specs.Fields.{joined, fit, bytesOf, laid}
 use Rattle.hbc_function_record.specs.declared.Layout.{Layout}
 use Rattle.hbc_function_record.specs.declared.Layout.the-variants as lay
-use Rattle.hbc_function_record.specs.Record.{sizeOf, legacyFields, modernFields, overflowed}
+use Rattle.hbc_function_record.specs.BitLayout.{fieldsIn}
+use Rattle.hbc_function_record.specs.Record.{sizeOf, overflowed}
 use Rattle.hbc_function_record.specs.Row.{ROW_LAYOUT, ROW_ID, ROW_OFFSET, ROW_PARAM_COUNT, ROW_SIZE, ROW_NAME, ROW_INFO_OFFSET, ROW_FRAME_SIZE}
 use Rattle.hbc_function_record.specs.Row.{ROW_FLAGS, numberIn}
 use Rattle.hbc_function_record.specs.Row.{ROW_ENVIRONMENT_SIZE, ROW_READ, ROW_WRITE}
@@ -15,12 +16,7 @@ use Rattle.hbc_function_record.specs.Row.{ROW_LOOP_DEPTH, ROW_NUMBER_REG, ROW_N
 
 -- ---- the fields of a header, in the order in which it holds them
 
--- inline: (first bit, width) of each, by the lists that the reader cuts
-abbrev pub fieldsIn : Layout → List (ℕ × ℕ)
-fieldsIn lay.Legacy16 = legacyFields
-fieldsIn lay.Modern12 = modernFields
-
--- large: the bytes of each; legacy seven u32 and three bytes, modern eight u32 and five bytes
+-- inline by the lists that the reader cuts by, `fieldsIn`; large: the bytes of each, legacy seven u32 and three bytes, modern eight u32 and five bytes
 abbrev pub sizesIn : Layout → List ℕ
 sizesIn lay.Legacy16 = 4 ∷ 4 ∷ 4 ∷ 4 ∷ 4 ∷ 4 ∷ 4 ∷ 1 ∷ 1 ∷ 1 ∷ []
 sizesIn lay.Modern12 = 4 ∷ 4 ∷ 4 ∷ 4 ∷ 4 ∷ 4 ∷ 4 ∷ 4 ∷ 1 ∷ 1 ∷ 1 ∷ 1 ∷ 1 ∷ []

@@ -1,9 +1,12 @@
 // The rows of the legacy layout. What is wrong is added up: one test, and no branch on the way.
 ghost use mathlib.Core.Path.{_≡_};
-ghost use Prim.Native.Nat.{_+_, _*_, _/_, _%_};
+ghost use mathlib.Core.List.{[], _∷_};
+ghost use Prim.Native.Nat.{_+_, _/_};
 ghost use Rattle.hbc_bits.specs.Fields.{wordsOf};
 ghost use Rattle.hbc_function_record.specs.declared.Layout.the-variants.{Legacy16};
 ghost use Rattle.hbc_function_bytes.specs.Bytes.{valuesIn, inlineNumber, pointerTo, rightRow};
+use crate::OVERFLOW;
+use crate::put;
 use hbc_function_record::ROW_ENVIRONMENT_SIZE;
 use hbc_function_record::ROW_FLAGS;
 use hbc_function_record::ROW_FRAME_SIZE;
@@ -17,6 +20,7 @@ use hbc_function_record::ROW_READ;
 use hbc_function_record::ROW_SIZE;
 use hbc_function_record::ROW_WRITE;
 use hbc_function_record::WIDTH;
+use hbc_function_record::bit_layout::LEGACY;
 
 // What the values of one byte have above it, and the words that should be 0.
 fn wrong(read: u32, write: u32, flags: u32, a: u32, b: u32, c: u32, d: u32) -> u64
@@ -52,47 +56,55 @@ pub(crate) fn is_right(row: [u32; WIDTH], id: u32) -> bool
         == 0
 }
 
-// Two values in a word, the second from bit 25 or bit 15 up, and four of a byte each.
-fn word_25(low: u32, high: u32) -> u32
-    ensures { λ r. ⌜ r ≡ low % 33554432 + high % 128 * 33554432 ⌝ }
+// The words of the header that holds these values.
+fn header(
+    offset: u32,
+    param_count: u32,
+    size: u32,
+    name: u32,
+    info_offset: u32,
+    frame_size: u32,
+    environment_size: u32,
+    read: u32,
+    write: u32,
+    flags: u32,
+) -> [u32; 4]
+    ensures { λ w. ⌜ w ≡ wordsOf 4 (inlineNumber Legacy16
+        (offset ∷ «param_count» ∷ size ∷ name ∷ «info_offset» ∷ «frame_size» ∷ «environment_size» ∷ read ∷ write ∷ flags ∷ [])) ⌝ }
 {
-    low % 0x200_0000 + high % 0x80 * 0x200_0000
-}
-
-fn word_15(low: u32, high: u32) -> u32
-    ensures { λ r. ⌜ r ≡ low % 32768 + high % 131072 * 32768 ⌝ }
-{
-    low % 0x8000 + high % 0x2_0000 * 0x8000
-}
-
-fn word_of_bytes(a: u32, b: u32, c: u32, d: u32) -> u32
-    ensures { λ r. ⌜ r ≡ a % 256 + b % 256 * 256 + c % 256 * 65536 + d % 256 * 16777216 ⌝ }
-{
-    a % 0x100 + b % 0x100 * 0x100 + c % 0x100 * 0x1_0000 + d % 0x100 * 0x100_0000
+    let list = LEGACY;
+    let a = put(offset, list.offset) + put(param_count, list.param_count);
+    let b = put(size, list.size) + put(name, list.name);
+    let c = put(info_offset, list.info_offset) + put(frame_size, list.frame_size);
+    let d = put(environment_size, list.environment_size)
+        + put(read, list.read)
+        + put(write, list.write)
+        + put(flags, list.flags);
+    [a, b, c, d]
 }
 
 pub(crate) fn words(row: [u32; WIDTH]) -> [u32; 4]
     ensures { λ w. ⌜ w ≡ wordsOf 4 (inlineNumber Legacy16 (valuesIn Legacy16 row)) ⌝ }
 {
-    let a = word_25(row[ROW_OFFSET], row[ROW_PARAM_COUNT]);
-    let b = word_15(row[ROW_SIZE], row[ROW_NAME]);
-    let c = word_25(row[ROW_INFO_OFFSET], row[ROW_FRAME_SIZE]);
-    let d = word_of_bytes(
+    header(
+        row[ROW_OFFSET],
+        row[ROW_PARAM_COUNT],
+        row[ROW_SIZE],
+        row[ROW_NAME],
+        row[ROW_INFO_OFFSET],
+        row[ROW_FRAME_SIZE],
         row[ROW_ENVIRONMENT_SIZE],
         row[ROW_READ],
         row[ROW_WRITE],
         row[ROW_FLAGS],
-    );
-    [a, b, c, d]
+    )
 }
 
+// Of the flags the overflow bit alone.
 pub(crate) fn pointer(place: usize) -> [u32; 4]
     ensures { λ w. ⌜ w ≡ wordsOf 4 (inlineNumber Legacy16 (pointerTo Legacy16 place)) ⌝ }
 {
-    [
-        (place % 0x1_0000) as u32,
-        0,
-        (place / 0x1_0000 % 0x200_0000) as u32,
-        0x2000_0000,
-    ]
+    let low = (place % 0x1_0000) as u32;
+    let high = (place / 0x1_0000 % 0x1_0000_0000) as u32;
+    header(low, 0, 0, 0, high, 0, 0, 0, 0, OVERFLOW)
 }

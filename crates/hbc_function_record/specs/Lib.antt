@@ -1,3 +1,4 @@
+pub mod BitLayout
 pub mod Record
 pub mod Row
 pub mod Private

@@ -1,6 +1,6 @@
--- docs/FORMAT.md, sections 3.1 to 3.3: the two records, their fields in an inline header as (first bit, width), in a large one, and where a large one is.
+-- docs/FORMAT.md, sections 3.1 to 3.3: the two records, of an inline header by the lists of BitLayout, and of a large one, and where a large one is.
 use Prim.Native.Nat.{ℕ, _+_, _*_, _/_, _%_, _^_}
-use mathlib.Core.List.{List, [], _∷_}
+use mathlib.Core.List.{List}
 use mathlib.Core.Bool.{Bool}
 use lib.ListN.{length, getD}
 use lib.Bits.{bitOr}
@@ -9,6 +9,7 @@ use Rattle.hbc_bits.specs.Bits.{leAt, field}
 use Rattle.hbc_bits.specs.Fields.{fieldsOf}
 use Rattle.hbc_io.specs.Outcome.{limit}
 use Rattle.hbc_io.specs.Lends.{below, choose}
+use Rattle.hbc_function_record.specs.BitLayout.{legacyFields, modernFields}
 use Rattle.hbc_function_record.specs.declared.Layout.{Layout}
 use Rattle.hbc_function_record.specs.declared.Layout.the-variants as lay
 use Rattle.hbc_function_record.specs.declared.Legacy.{Legacy}
@@ -30,12 +31,7 @@ largeOf lay.Modern12 = 37
 
 -- ---- the inline record
 
--- legacy: each field as (first bit, width), in the order in which both headers hold them: offset, param_count, size, name, info_offset, frame_size,
--- environment_size, read index, write index, flags
-abbrev pub legacyFields : List (ℕ × ℕ)
-legacyFields = (0, 25) ∷ (25, 7) ∷ (32, 15) ∷ (47, 17) ∷ (64, 25) ∷ (89, 7) ∷ (96, 8) ∷ (104, 8) ∷ (112, 8) ∷ (120, 8) ∷ []
-
--- the record of function i that has these values, in that order
+-- legacy: the record of function i that has these values, in the order in which both headers hold them
 unfoldable pub legacyBy : ℕ → List ℕ → Legacy
 legacyBy i vs = record {
   id = i;
@@ -55,12 +51,7 @@ legacyBy i vs = record {
 unfoldable pub legacyOf : ℕ → ℕ → Legacy
 legacyOf i n = legacyBy i (fieldsOf legacyFields n)
 
--- modern: offset, param_count, loop_depth, size, name, number_reg, non_ptr_reg, frame_size, read cache, write cache, new_object, private_name, flags
-abbrev pub modernFields : List (ℕ × ℕ)
-modernFields =
-    (0, 25) ∷ (25, 5) ∷ (30, 2) ∷ (32, 14) ∷ (46, 8) ∷ (54, 5) ∷ (59, 5) ∷ (64, 8) ∷ (72, 8) ∷ (80, 6) ∷ (86, 1) ∷ (87, 1) ∷ (88, 8) ∷ []
-
--- info_offset is not among them
+-- modern: likewise; info_offset is not among them
 unfoldable pub modernBy : ℕ → ℕ → List ℕ → Modern
 modernBy i info vs = record {
   id = i;

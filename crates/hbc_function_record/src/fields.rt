@@ -11,6 +11,9 @@ use crate::Layout;
 use crate::Legacy;
 use crate::Link;
 use crate::Modern;
+use crate::bit_layout::LEGACY;
+use crate::bit_layout::MODERN;
+use crate::bit_layout::OVERFLOW_BIT;
 use crate::large_size;
 use crate::words::cut;
 use crate::words::word_here;
@@ -21,18 +24,20 @@ use hbc_io::u8_at;
 pub(crate) fn legacy_inline(lo: u64, hi: u64, id: u32) -> Legacy
     ensures { λ r. ⌜ r ≡ legacyOf id (lo + 2 ^ 64 * hi) ⌝ }
 {
+    // a constant is made anew where it is named: once is enough
+    let list = LEGACY;
     Legacy {
         id,
-        offset: cut(lo, hi, 0, 25),
-        param_count: cut(lo, hi, 25, 7),
-        size: cut(lo, hi, 32, 15),
-        name: cut(lo, hi, 47, 17),
-        info_offset: cut(lo, hi, 64, 25),
-        frame_size: cut(lo, hi, 89, 7),
-        environment_size: cut(lo, hi, 96, 8),
-        read: cut(lo, hi, 104, 8),
-        write: cut(lo, hi, 112, 8),
-        flags: cut(lo, hi, 120, 8),
+        offset: cut(lo, hi, list.offset),
+        param_count: cut(lo, hi, list.param_count),
+        size: cut(lo, hi, list.size),
+        name: cut(lo, hi, list.name),
+        info_offset: cut(lo, hi, list.info_offset),
+        frame_size: cut(lo, hi, list.frame_size),
+        environment_size: cut(lo, hi, list.environment_size),
+        read: cut(lo, hi, list.read),
+        write: cut(lo, hi, list.write),
+        flags: cut(lo, hi, list.flags),
     }
 }
 
@@ -40,21 +45,22 @@ pub(crate) fn legacy_inline(lo: u64, hi: u64, id: u32) -> Legacy
 pub(crate) fn modern_inline(lo: u64, hi: u64, id: u32) -> Modern
     ensures { λ r. ⌜ r ≡ modernOf id (lo + 2 ^ 64 * hi) ⌝ }
 {
+    let list = MODERN;
     Modern {
         id,
-        offset: cut(lo, hi, 0, 25),
-        param_count: cut(lo, hi, 25, 5),
-        loop_depth: cut(lo, hi, 30, 2),
-        size: cut(lo, hi, 32, 14),
-        name: cut(lo, hi, 46, 8),
-        number_reg: cut(lo, hi, 54, 5),
-        non_ptr_reg: cut(lo, hi, 59, 5),
-        frame_size: cut(lo, hi, 64, 8),
-        read_cache: cut(lo, hi, 72, 8),
-        write_cache: cut(lo, hi, 80, 6),
-        new_object: cut(lo, hi, 86, 1),
-        private_name: cut(lo, hi, 87, 1),
-        flags: cut(lo, hi, 88, 8),
+        offset: cut(lo, hi, list.offset),
+        param_count: cut(lo, hi, list.param_count),
+        loop_depth: cut(lo, hi, list.loop_depth),
+        size: cut(lo, hi, list.size),
+        name: cut(lo, hi, list.name),
+        number_reg: cut(lo, hi, list.number_reg),
+        non_ptr_reg: cut(lo, hi, list.non_ptr_reg),
+        frame_size: cut(lo, hi, list.frame_size),
+        read_cache: cut(lo, hi, list.read_cache),
+        write_cache: cut(lo, hi, list.write_cache),
+        new_object: cut(lo, hi, list.new_object),
+        private_name: cut(lo, hi, list.private_name),
+        flags: cut(lo, hi, list.flags),
         info_offset: 0,
     }
 }
@@ -143,11 +149,11 @@ fn modern_place(r: Modern) -> usize
     (r.name as usize) * 0x100_0000 | (r.offset as usize) % 0x100_0000
 }
 
-// The overflow flag: bit 5.
+// The overflow flag.
 fn overflows(flags: u32) -> bool
     ensures { λ r. ⌜ r ≡ overflowed flags ⌝ }
 {
-    bits(flags as u64, 5, 1) == 1
+    bits(flags as u64, OVERFLOW_BIT, 1) == 1
 }
 
 // Whether the inline header at `at` is flagged.

@@ -73,6 +73,7 @@ pub enum Link {
     Large(usize),
 }
 
+pub mod bit_layout;
 mod fields;
 mod row;
 mod words;

@@ -3,7 +3,8 @@ ghost use mathlib.Core.Path.{_≡_};
 ghost use Prim.Native.Nat.{_+_, _*_, _^_, _≤_, _<_};
 ghost use lib.ListN.{length};
 ghost use Rattle.hbc_bits.specs.Bits.{leAt, field};
-ghost use Rattle.hbc_function_record.specs.Private.{Inside};
+ghost use Rattle.hbc_function_record.specs.Private.{Within};
+use crate::bit_layout::Field;
 use hbc_bits::bits;
 
 fn wide(b: u8) -> u32
@@ -23,14 +24,14 @@ pub(crate) fn word_here(s: &[u8], at: usize) -> u32
         + wide(s[at + 3]) * 0x100_0000
 }
 
-// The field of `width` bits from bit `first` of lo + 2^64 * hi. It may not cross bit 64.
-pub(crate) fn cut(lo: u64, hi: u64, first: u32, width: u32) -> u32
-    requires { ⌜ Inside first width ⌝ }
-    ensures { λ r. ⌜ r ≡ field first width (lo + 2 ^ 64 * hi) ⌝ }
+// A field of lo + 2^64 * hi. It lies in one word of 32 bits, and so does not cross bit 64.
+pub(crate) fn cut(lo: u64, hi: u64, f: Field) -> u32
+    requires { ⌜ Within (f .0) (f .1) ⌝ }
+    ensures { λ r. ⌜ r ≡ field (f .0) (f .1) (lo + 2 ^ 64 * hi) ⌝ }
 {
-    if first < 64 {
-        bits(lo, first, width) as u32
+    if f.0 < 64 {
+        bits(lo, f.0, f.1) as u32
     } else {
-        bits(hi, first - 64, width) as u32
+        bits(hi, f.0 - 64, f.1) as u32
     }
 }

@@ -16,7 +16,8 @@ use Rattle.hbc_function_record.specs.declared.Layout.the-variants as lay
 use Rattle.hbc_function_record.specs.Record.{sizeOf, largeOf, overflowed}
 use Rattle.hbc_function_record.specs.Row.{ROW_INFO_OFFSET, ROW_FLAGS}
 use Rattle.hbc_function_header.specs.Header.{headerAt}
-use Rattle.hbc_function_bytes.specs.Bytes.{fieldsIn, valuesIn, infoFree, goesInline}
+use Rattle.hbc_function_record.specs.BitLayout.{fieldsIn}
+use Rattle.hbc_function_bytes.specs.Bytes.{valuesIn, infoFree, goesInline}
 use Rattle.hbc_function_write.specs.Write.{rounded, freeAt, placeAt, endAt, tableEnd, rightEnd}
 use Rattle.hbc_function_write.specs.Private.{Room, Ends, Ended, Inlines}
 

@@ -19,6 +19,9 @@ use hbc_function_put::put_large;
 use hbc_function_record::Layout;
 use hbc_function_record::ROW_INFO_OFFSET;
 use hbc_function_record::WIDTH;
+use hbc_function_record::bit_layout::LEGACY;
+use hbc_function_record::bit_layout::MODERN;
+use hbc_function_record::bit_layout::OVERFLOW_BIT;
 use hbc_function_record::header_size;
 use hbc_function_record::large_size;
 use hbc_io::LIMIT;
@@ -99,55 +102,52 @@ fn pair(rows: &[u32], at: usize) -> u64
     requires { ⌜ at + 2 ≤ length (now rows) ⌝ }
     ensures { λ r. ⌜ r ≡ paired (now (rows .entry)) at ⌝ }
 {
-    (rows[at] as u64) + (rows[at + 1] as u64) * 0x1_0000_0000
+    (rows[at] as u64) + (rows[at + 1] as u64) * WORD
 }
 
 // The pairs of a row.
 const PAIRS: usize = 8;
 
-// The bits that are clear in a row that goes inline, pair by pair: those above a field's width, the overflow bit, and in modern all of info_offset.
-const LEGACY_PLACE: u64 = 0xFFFF_FF80_FE00_0000;
-
-const LEGACY_SIZE: u64 = 0xFFFE_0000_FFFF_8000;
-
-const LEGACY_FLAGS: u64 = 0xFFFF_FF00_FFFF_FF20;
-
-const BYTES: u64 = 0xFFFF_FF00_FFFF_FF00;
+// One more than a word of 32 bits holds; all bits of a pair; and the overflow bit.
+const WORD: u64 = 0x1_0000_0000;
 
 const ALL: u64 = 0xFFFF_FFFF_FFFF_FFFF;
 
-const LEGACY_BITS: [u64; PAIRS] = [
+const OVERFLOW: u64 = 1 << OVERFLOW_BIT;
+
+// The bits that are clear in a row that goes inline, pair by pair: those above a field's width, the overflow bit, and in modern all of info_offset.
+const LEGACY_MASKS: [u64; PAIRS] = [
     0,
-    LEGACY_PLACE,
-    LEGACY_SIZE,
-    LEGACY_PLACE,
-    LEGACY_FLAGS,
-    BYTES,
+    ALL - ((1 << LEGACY.offset.1) - 1) - ((1 << LEGACY.param_count.1) - 1) * WORD,
+    ALL - ((1 << LEGACY.size.1) - 1) - ((1 << LEGACY.name.1) - 1) * WORD,
+    ALL - ((1 << LEGACY.info_offset.1) - 1) - ((1 << LEGACY.frame_size.1) - 1) * WORD,
+    ALL - ((1 << LEGACY.flags.1) - 1) + OVERFLOW - ((1 << LEGACY.environment_size.1) - 1) * WORD,
+    ALL - ((1 << LEGACY.read.1) - 1) - ((1 << LEGACY.write.1) - 1) * WORD,
     0,
     0,
 ];
 
 // And where the four zeros are besides: one test of a row that is right and goes inline.
 const LEGACY_PLAIN: [u64; PAIRS] = [
-    0,
-    LEGACY_PLACE,
-    LEGACY_SIZE,
-    LEGACY_PLACE,
-    LEGACY_FLAGS,
-    BYTES,
+    LEGACY_MASKS[0],
+    LEGACY_MASKS[1],
+    LEGACY_MASKS[2],
+    LEGACY_MASKS[3],
+    LEGACY_MASKS[4],
+    LEGACY_MASKS[5],
     ALL,
     ALL,
 ];
 
-const MODERN_BITS: [u64; PAIRS] = [
+const MODERN_MASKS: [u64; PAIRS] = [
     0,
-    0xFFFF_FFE0_FE00_0000,
-    0xFFFF_FF00_FFFF_C000,
-    0xFFFF_FF00_FFFF_FFFF,
-    0xFFFF_FFFC_FFFF_FF20,
-    0xFFFF_FFE0_FFFF_FFE0,
-    0xFFFF_FFC0_FFFF_FF00,
-    0xFFFF_FFFE_FFFF_FFFE,
+    ALL - ((1 << MODERN.offset.1) - 1) - ((1 << MODERN.param_count.1) - 1) * WORD,
+    ALL - ((1 << MODERN.size.1) - 1) - ((1 << MODERN.name.1) - 1) * WORD,
+    ALL - ((1 << MODERN.frame_size.1) - 1) * WORD,
+    ALL - ((1 << MODERN.flags.1) - 1) + OVERFLOW - ((1 << MODERN.loop_depth.1) - 1) * WORD,
+    ALL - ((1 << MODERN.number_reg.1) - 1) - ((1 << MODERN.non_ptr_reg.1) - 1) * WORD,
+    ALL - ((1 << MODERN.read_cache.1) - 1) - ((1 << MODERN.write_cache.1) - 1) * WORD,
+    ALL - ((1 << MODERN.new_object.1) - 1) - ((1 << MODERN.private_name.1) - 1) * WORD,
 ];
 
 // Whether none of these bits is set in row `id`: or-ed and asked once, so that there is one branch; by pairs, so that there is half the work.
@@ -170,7 +170,7 @@ fn is_plain_legacy(rows: &[u32], id: u32) -> bool
     requires { ⌜ id * width + width ≤ length (now rows) ⌝ }
     ensures { λ r. ⌜ Plain Legacy16 id (rowAt width (now (rows .entry)) id) r ⌝ }
 {
-    if pair(rows, (id as usize) * WIDTH) != (id as u64) * 0x1_0000_0000 {
+    if pair(rows, (id as usize) * WIDTH) != (id as u64) * WORD {
         return false;
     }
     is_clear(rows, id, LEGACY_PLAIN)
@@ -180,10 +180,10 @@ fn is_plain_modern(rows: &[u32], id: u32) -> bool
     requires { ⌜ id * width + width ≤ length (now rows) ⌝ }
     ensures { λ r. ⌜ Plain Modern12 id (rowAt width (now (rows .entry)) id) r ⌝ }
 {
-    if pair(rows, (id as usize) * WIDTH) != (id as u64) * 0x1_0000_0000 + 1 {
+    if pair(rows, (id as usize) * WIDTH) != (id as u64) * WORD + 1 {
         return false;
     }
-    is_clear(rows, id, MODERN_BITS)
+    is_clear(rows, id, MODERN_MASKS)
 }
 
 // Whether a large row says where its large header ends.
@@ -317,7 +317,7 @@ fn is_inline(rows: &[u32], id: u32, all: bool) -> bool
     if all {
         return true;
     }
-    is_clear(rows, id, LEGACY_BITS)
+    is_clear(rows, id, LEGACY_MASKS)
 }
 
 // The headers of row `id`, the inline one at `at`, and from where on the next large one goes.

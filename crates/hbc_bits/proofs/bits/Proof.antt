@@ -23,11 +23,11 @@ shl-result : tie.Need-shl-result
 shl-result c = search needs
 
 rem-result : tie.Need-rem-result
-rem-result c = rw (one-shl _ (c .if2 .left)) (pow-pos _)
+rem-result c = rw (one-shl 64 _ (c .if2 .left)) (pow-pos _)
 
 returns-3 : tie.Need-returns-3
 unfolding field
-returns-3 c = rw (one-shl _ (c .if2 .left)) refl
+returns-3 c = rw (one-shl 64 _ (c .if2 .left)) refl
 
 pub bits-spec : {M : Type 1} → statement M
 bits-spec =

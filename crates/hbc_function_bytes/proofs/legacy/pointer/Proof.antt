@@ -1,16 +1,21 @@
+use mathlib.Core.Path.{ap, _∙_}
+use Rattle.hbc_bits.specs.Fields.{wordsOf}
 use Rattle.hbc_function_bytes.proofs.Words.{legacy-pointer}
 use borrow.Author.Needs.{needs}
 use Rattle.hbc_function_bytes.proofs.legacy.pointer.Statement.{statement}
 use Rattle.hbc_function_bytes.proofs.legacy.pointer.Tie as tie
 
-cast-t3 : tie.Need-cast-t3
-cast-t3 c = search needs
+cast-low : tie.Need-cast-low
+cast-low c = search needs
 
-cast-t6 : tie.Need-cast-t6
-cast-t6 c = search needs
+cast-high : tie.Need-cast-high
+cast-high c = search needs
+
+header-requires : tie.Need-header-requires
+header-requires c κs = search needs
 
 returns : tie.Need-returns
-returns c = legacy-pointer (c .args .place)
+returns c = c .header .ensures ∙ ap (wordsOf 4) (legacy-pointer _)
 
 pub pointer-spec : {M : Type 1} → statement M
-pointer-spec = tie.close (tie.spec cast-t3 cast-t6 returns)
+pointer-spec = tie.close (tie.spec cast-low cast-high header-requires returns)

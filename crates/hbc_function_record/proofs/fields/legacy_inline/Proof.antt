@@ -36,7 +36,19 @@ cut-requires-10 c κs = search needs
 
 returns : tie.Need-returns
 unfolding legacyOf legacyBy fieldsOf
-returns c = cc
+returns c = λ i. record {
+  id = c .before .before .before .before .before .before .before .before .before .before .args .id;
+  offset = c .before .before .before .before .before .before .before .before .before .cut .ensures i;
+  «param_count» = c .before .before .before .before .before .before .before .before .cut2 .ensures i;
+  size = c .before .before .before .before .before .before .before .cut3 .ensures i;
+  name = c .before .before .before .before .before .before .cut4 .ensures i;
+  «info_offset» = c .before .before .before .before .before .cut5 .ensures i;
+  «frame_size» = c .before .before .before .before .cut6 .ensures i;
+  «environment_size» = c .before .before .before .cut7 .ensures i;
+  read = c .before .before .cut8 .ensures i;
+  write = c .before .cut9 .ensures i;
+  flags = c .cut10 .ensures i;
+}
 
 pub legacy-inline-spec : {M : Type 1} → statement M
 legacy-inline-spec =
