@@ -1,7 +1,7 @@
 /* What include/hbc.h says besides its prototypes, as a caller meets it: names, what a refused call leaves, the two modes
  * of strings, a string's text, why a function has no handlers, which LEB128 numbers are exact, what a refused refresh
- * asks for, what stands for no large header, what is written and what is not. C99 and C++. Prints nothing; at the first
- * test that fails its line, and then ends with status 1. */
+ * asks for, what stands for no large header and where a row says that there is one, what is written and what is not. C99
+ * and C++. Prints nothing; at the first test that fails its line, and then ends with status 1. */
 #include <stdio.h>
 #include <string.h>
 
@@ -50,7 +50,7 @@ static int refusals(void)
     CHECK(is(hbc_seek(bytes, (size_t)HBC_LIMIT + 1, &at, 0), "TOO_LONG"));
     CHECK(is(hbc_seek(bytes, 12, &at, 13), "PAST_END"));
     CHECK(is(hbc_read_bytes(bytes, 12, &at, 13, &start, &size), "CUT"));
-    CHECK(is(hbc_read_functions(bytes, 12, HBC_LAYOUT_MODERN12, 0, 1, rows, 15), "TOO_FEW_ROWS"));
+    CHECK(is(hbc_read_functions(bytes, 12, HBC_LAYOUT_MODERN12, 0, 1, rows, HBC_FUNCTION_WORDS - 1), "TOO_FEW_ROWS"));
     CHECK(is(hbc_read_uleb128(bytes, 12, &at, &value, &exact), "LEB128_TOO_LONG") && at == 10);
     CHECK(is(hbc_align(bytes, 12, &at, 0), "ZERO_ALIGNMENT"));
     CHECK(is(hbc_read_series(bytes, 12, 12, 1, kinds, 1, payloads, 1), "SERIES_PAST_END"));
@@ -303,6 +303,37 @@ static int ground(void)
     return 0;
 }
 
+/* The last word of a row: the place of the large header that it was read from, or HBC_INLINE. By a read of all functions,
+ * by a read of one, and by a refresh when the flag is set, when the place changes and when the flag is cleared. */
+static int large_place(void)
+{
+    uint32_t layout, rows[2 * HBC_FUNCTION_WORDS], one[HBC_FUNCTION_WORDS];
+    const size_t words = sizeof rows / sizeof *rows;
+    for (layout = HBC_LAYOUT_LEGACY16; layout <= HBC_LAYOUT_MODERN12; layout++) {
+        const size_t own = layout == HBC_LAYOUT_LEGACY16 ? 16 : 12, place = own, flags = 2 * own - 1;
+        const uint32_t *row = rows + HBC_FUNCTION_WORDS;
+        uint8_t file[80] = {0};
+        file[place] = 40; /* of function 1 the offset: no place yet */
+        CHECK(hbc_read_functions(file, 80, layout, 0, 2, rows, words) == 2);
+        CHECK(rows[HBC_FUNCTION_LARGE_PLACE] == HBC_INLINE && row[HBC_FUNCTION_LARGE_PLACE] == HBC_INLINE);
+        file[flags] = HBC_FLAG_OVERFLOWED;
+        CHECK(hbc_refresh_functions(file, 80, layout, 0, 2, flags, flags + 1, rows, words) == 1);
+        CHECK(row[HBC_FUNCTION_LARGE_PLACE] == 40 && rows[HBC_FUNCTION_LARGE_PLACE] == HBC_INLINE);
+        file[place] = 41;
+        CHECK(hbc_refresh_functions(file, 80, layout, 0, 2, place, place + 1, rows, words) == 1);
+        CHECK(row[HBC_FUNCTION_LARGE_PLACE] == 41);
+        CHECK(hbc_read_function(file, 80, layout, 0, 1, one, HBC_FUNCTION_WORDS) == 1);
+        CHECK(memcmp(one, row, sizeof one) == 0);
+        file[flags] = 0;
+        CHECK(hbc_refresh_functions(file, 80, layout, 0, 2, flags, flags + 1, rows, words) == 1);
+        CHECK(row[HBC_FUNCTION_LARGE_PLACE] == HBC_INLINE);
+        /* The words of a record are no row. */
+        CHECK(is(hbc_read_function(file, 80, layout, 0, 1, one, HBC_FUNCTION_LARGE_PLACE), "TOO_FEW_ROWS"));
+    }
+    CHECK(HBC_FUNCTION_LARGE_PLACE == HBC_FUNCTION_WORDS - 1 && HBC_INLINE > HBC_LIMIT);
+    return 0;
+}
+
 /* Whether bytes from .. to - 1 of a buffer that was filled with 0xAB are as they were. */
 static int stayed(const uint8_t *buffer, size_t from, size_t to)
 {
@@ -330,10 +361,16 @@ static int written(void)
         row[HBC_FUNCTION_SIZE] = 1 << 15;
         row[HBC_FUNCTION_INFO_OFFSET] = layout == HBC_LAYOUT_LEGACY16 ? 7 : (uint32_t)(place + 40);
 
+        /* The last word of a row is any number here, and is read back as the place of the large header. */
+        rows[HBC_FUNCTION_LARGE_PLACE] = 7;
+        row[HBC_FUNCTION_LARGE_PLACE] = HBC_INLINE;
+
         memset(buffer, 0xAB, sizeof buffer);
         CHECK(hbc_write_functions(rows, words, layout, 1, 2, 33, buffer, sizeof buffer) == last);
         CHECK(stayed(buffer, 0, 1) && stayed(buffer, end, place) && stayed(buffer, last, sizeof buffer));
         CHECK(hbc_read_functions(buffer, last, layout, 1, 2, again, words) == 2);
+        rows[HBC_FUNCTION_LARGE_PLACE] = HBC_INLINE;
+        row[HBC_FUNCTION_LARGE_PLACE] = (uint32_t)place;
         CHECK(memcmp(rows, again, sizeof rows) == 0);
         CHECK(hbc_function_ground(buffer, last, layout, 1, 1, &header, &large) == 0);
         CHECK(header == 1 + own && large == place);
@@ -372,6 +409,6 @@ static int version(void)
 
 int main(void)
 {
-    return refusals() || left() || modes() || texts() || handlers() || marks() || refresh() || ground() || written() ||
-           version();
+    return refusals() || left() || modes() || texts() || handlers() || marks() || refresh() || ground() ||
+           large_place() || written() || version();
 }

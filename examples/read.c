@@ -33,13 +33,18 @@ static int refused(const char *call, uint64_t code)
     return 1;
 }
 
+/* The last word of a row says where to look in the file for what was read. */
 static void print_rows(const uint32_t *rows)
 {
     for (int i = 0; i < COUNT; i++) {
         const uint32_t *row = rows + i * HBC_FUNCTION_WORDS;
-        printf("  function %" PRIu32 " offset %" PRIu32 " size %" PRIu32 " name %" PRIu32 " frame %" PRIu32 "\n",
+        printf("  function %" PRIu32 " offset %" PRIu32 " size %" PRIu32 " name %" PRIu32 " frame %" PRIu32,
                row[HBC_FUNCTION_ID],
                row[HBC_FUNCTION_OFFSET], row[HBC_FUNCTION_SIZE], row[HBC_FUNCTION_NAME], row[HBC_FUNCTION_FRAME_SIZE]);
+        if (row[HBC_FUNCTION_LARGE_PLACE] == HBC_INLINE)
+            printf(", inline\n");
+        else
+            printf(", large header at byte %" PRIu32 "\n", row[HBC_FUNCTION_LARGE_PLACE]);
     }
 }
 

@@ -32,10 +32,11 @@
 
 /* What this header and its archive are: the two must be of one version, and no linker sees where they are not. Since
  * 0.2.0 hbc_read_uleb128, hbc_read_sleb128, hbc_read_length_prefixed_string and hbc_read_debug have one parameter more,
- * the last, `exact`; since 0.3.0 there is hbc_string_text, since 0.4.0 hbc_why_no_handlers. */
-#define HBC_VERSION "0.4.0"
+ * the last, `exact`; since 0.3.0 there is hbc_string_text, since 0.4.0 hbc_why_no_handlers; since 0.5.0 a function's row
+ * has 17 words where it had 16, so that a program that lends or reads such rows must be compiled again. */
+#define HBC_VERSION "0.5.0"
 #define HBC_VERSION_MAJOR 0
-#define HBC_VERSION_MINOR 4
+#define HBC_VERSION_MINOR 5
 #define HBC_VERSION_PATCH 0
 
 /* The refusal's number in an answer, 0 if it was accepted; and its place. */
@@ -137,7 +138,8 @@ uint64_t hbc_read_length_prefixed_string(const uint8_t *s, size_t s_len, size_t 
 /* ---- Function tables ----
  *
  * A layout is a number: 0 legacy (headers of 16 bytes), 1 modern (12). A row is HBC_FUNCTION_WORDS words, named below;
- * the last four of a legacy row are 0. Word 0 is the layout, word 1 the function's number.
+ * words 12 to 15 of a legacy row are 0. Word 0 is the layout, word 1 the function's number. The last word says where the
+ * function's large header is, or that it has none.
  *
  * `start` is the byte of the file at which the table of headers begins. A header with bit 5 of its flags set is read
  * from its large header, at the place packed into it.
@@ -145,7 +147,7 @@ uint64_t hbc_read_length_prefixed_string(const uint8_t *s, size_t s_len, size_t 
 #define HBC_LAYOUT_LEGACY16 0
 #define HBC_LAYOUT_MODERN12 1
 
-#define HBC_FUNCTION_WORDS 16
+#define HBC_FUNCTION_WORDS 17
 #define HBC_FUNCTION_LAYOUT 0
 #define HBC_FUNCTION_ID 1
 #define HBC_FUNCTION_OFFSET 2
@@ -167,6 +169,11 @@ uint64_t hbc_read_length_prefixed_string(const uint8_t *s, size_t s_len, size_t 
 #define HBC_FUNCTION_WRITE_CACHE 13
 #define HBC_FUNCTION_NEW_OBJECT 14
 #define HBC_FUNCTION_PRIVATE_NAME 15
+/* of any row: the place in the file of the large header that it was read from, or HBC_INLINE if it was read from its own
+ * header: this word, and not the overflow bit of the flags, tells which. A place that was read from is below HBC_LIMIT,
+ * so that the two cannot be confused. HBC_INLINE is a number of 32 bits, and not HBC_NO_PLACE of hbc_function_ground. */
+#define HBC_FUNCTION_LARGE_PLACE 16
+#define HBC_INLINE 4294967295u
 
 /* Bits of the flags word; the overflow bit is the one of the header that the row was read from. */
 #define HBC_FLAG_STRICT 0x01
@@ -215,7 +222,9 @@ uint64_t hbc_function_meets(const uint8_t *file, size_t file_len, uint32_t layou
                             size_t low, size_t high);
 
 /* Writes rows 0 to count - 1 of `rows` as a table of headers into `buffer`, from byte `start` on: hbc_read_functions
- * with the same layout, start and count reads these rows back from it.
+ * with the same layout, start and count reads these rows back from it, with the last word of each saying where its large
+ * header is now, or HBC_INLINE. What that word is in `rows` is not looked at: any number will do. It is not written either:
+ * rows that were read elsewhere still say where that was. Read them from the buffer before you go by their places.
  *
  * A row goes inline, into its header alone, exactly if bit 5 of its flags is clear, a modern one's info_offset is 0,
  * and no field has more bits than the header has for it: in a legacy one offset 25, param_count 7, size 15, name 17,
@@ -235,7 +244,7 @@ uint64_t hbc_function_meets(const uint8_t *file, size_t file_len, uint32_t layou
  * Refused, no byte is written.
  * Refused 12; 1 if the buffer is longer than HBC_LIMIT; 2 if `start` is past its end; 11 if fewer than `count` rows are
  * lent; then, each looked for in all rows before the next, 13 with the first row as place whose words 0 and 1 are not
- * the layout and its own number, whose last four words are not 0 in legacy, or that has more than 255 in flags,
+ * the layout and its own number, whose words 12 to 15 are not 0 in legacy, or that has more than 255 in flags,
  * read_index or write_index (legacy), in flags, read_cache, write_cache, new_object or private_name (modern); 14 with
  * the first modern row as place that goes to a large header and has another info_offset; 15 if `large`, as it is given,
  * is before the table's end, also where no row needs it; 4 if the buffer ends before what is to be written does.

@@ -2,17 +2,16 @@
 use Prim.Native.Nat.{ℕ, _*_, _≤_}
 use mathlib.Core.Path.{_≡_, refl, ap, sym, _∙_}
 use mathlib.Core.List.{List}
-use native.Mathlib.Omega.{arith}
 use lib.ListN.{length}
 use borrow.Author.Tests.{le-ltb}
 use Rattle.hbc_io.specs.Outcome.{limit}
-use Rattle.hbc_io.specs.Answer.{Answer, gives, refuses, asked}
+use Rattle.hbc_io.specs.Answer.{gives, refuses, asked}
 use Rattle.hbc_io.specs.Lends.{below}
 use Rattle.hbc_io.specs.declared.Refusal.{Refusal}
 use Rattle.hbc_io.proofs.Exits.{given, refused}
 use Rattle.hbc_rows.specs.Rows.{putRow}
 use Rattle.hbc_function_record.specs.declared.Layout.{Layout}
-use Rattle.hbc_function_record.specs.declared.Record.{Record}
+use Rattle.hbc_function_record.specs.declared.Found.{Found}
 use Rattle.hbc_function_record.specs.Row.{width, rowWords}
 use Rattle.hbc_function_record.proofs.Rows.{words-length}
 use Rattle.hbc_function_header.specs.Header.{readFunction}
@@ -25,7 +24,7 @@ module _ (s : List ℕ) (layout : Layout) (start i : ℕ) (t : List ℕ) (h : le
   unfolding rowAnswer below
   answer-is = ap asked (sym (read-at s layout start i h k)) ∙ sym (simp (le-ltb _ _ h, le-ltb _ _ k, le-ltb (length t) (1 * width) l))
 
-  pub row-read : {r : Record} {words t′ : List ℕ} → gives r ≡ readFunction s layout start i → words ≡ rowWords r → t′ ≡ putRow (length words) t 0 words
+  pub row-read : {r : Found} {words t′ : List ℕ} → gives r ≡ readFunction s layout start i → words ≡ rowWords r → t′ ≡ putRow (length words) t 0 words
       → ReadRow s layout start i t (gives tt) t′
   row-read {r} {words} {t′} e w p = given refl (ap asked e ∙ answer-is)
       (p ∙ ap (λ (n : ℕ). putRow n t 0 words) (ap length w ∙ words-length r) ∙ ap (putRow width t 0) (w ∙ ap rowBy (e ∙ sym (read-at s layout start i h k))))

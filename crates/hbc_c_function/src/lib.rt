@@ -11,6 +11,7 @@ use hbc_function_header::Function;
 use hbc_function_header::Grounded;
 use hbc_function_header::Meeting;
 use hbc_function_header::Reading;
+use hbc_function_record::Found;
 use hbc_function_record::Layout;
 use hbc_function_record::WIDTH;
 use hbc_function_record::row_words;
@@ -115,7 +116,7 @@ pub fn write_functions(
     code(refuse(12, 0))
 }
 
-// By way of the record: function_row is called in the loops over a table alone, so that it is made part of them.
+// By way of what is found: function_row is called in the loops over a table alone, so that it is made part of them.
 fn read_row(file: &[u8], layout: Layout, start: usize, id: u32, table: &mut [u32]) -> u64
     ensures { λ r. ⌜ RowRead (now (file .entry)) layout start id (now (table .entry)) r (now (table .exit)) ⌝ }
 {
@@ -129,8 +130,8 @@ fn read_row(file: &[u8], layout: Layout, start: usize, id: u32, table: &mut [u32
         return code(refuse(4, 0));
     }
     match hbc_function_header::read_function(file, layout, start, id) {
-        Function::Read(made) => {
-            let words = row_words(made);
+        Function::Read(own, place) => {
+            let words = row_words(Found { own, place });
             put_row(table, 0, &words);
             1
         }

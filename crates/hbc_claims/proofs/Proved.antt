@@ -18,7 +18,7 @@ use Rattle.hbc_io.specs.declared.Refusal.{Refusal}
 use Rattle.hbc_io.specs.declared.Moved.the-variants as moved
 use Rattle.hbc_rows.specs.Rows.{entryAt}
 use Rattle.hbc_function_record.specs.declared.Layout.{Layout}
-use Rattle.hbc_function_record.specs.declared.Record.{Record}
+use Rattle.hbc_function_record.specs.declared.Found.{Found}
 use Rattle.hbc_function_record.specs.Row.{ROW_INFO_OFFSET, ROW_FLAGS, rowWords}
 use Rattle.hbc_function_header.specs.Header.{headerAt, functionAt}
 use Rattle.hbc_function_header.specs.declared.Reading.{Reading}
@@ -55,6 +55,7 @@ use Rattle.hbc_claims_function.proofs.Refreshed as fresh
 use Rattle.hbc_claims_function.proofs.Tables.{filled, rewritten}
 use Rattle.hbc_claims_function.proofs.Unique as u-function
 use Rattle.hbc_claims_function.proofs.Written as written
+use Rattle.hbc_claims_function.proofs.Places as places
 use Rattle.hbc_claims_function.proofs.OneOutput as outputs
 use Rattle.hbc_claims_function.specs.Written.{Written}
 use Rattle.hbc_claims_table.proofs.Tables as r-table
@@ -294,16 +295,16 @@ handlers-read s fs count t n t′ v = record {
   behind = rows-of.listed-behind s fs count t n t′ v;
 }
 
--- two words of a row, of the one record that is found there
+-- two words of a row, of what is found there
 own-header : (s : List ℕ) (layout : Layout) (start count : ℕ) (t t′ : List ℕ) → ReadFunctions s layout start count t reading.Read t′
-    → (id : ℕ) → id < count → (own : Record) × (functionAt s layout start id ≡ gives own) × OfRecord own t′ id
+    → (id : ℕ) → id < count → (f : Found) × (functionAt s layout start id ≡ gives f) × OfRecord (f .own) t′ id
 unfolding entryAt
 own-header s layout start count t t′ v id h =
     let all : Reads s layout start count t t′ = reads v in
     let info = all .0 id ROW_INFO_OFFSET h (omega arith) in
     let flags = all .0 id ROW_FLAGS h (omega arith) in
-    let same : flags .record-of ≡ info .record-of = cc (sym (flags .found) ∙ info .found) in
-    (info .record-of, info .found, rows-of.of-record (info .record-of) (info .is) (flags .is ∙ ap (λ (r : Record). getD (rowWords r) ROW_FLAGS 0) same))
+    let same : flags .read-as ≡ info .read-as = cc (sym (flags .found) ∙ info .found) in
+    (info .read-as, info .found, rows-of.of-record (info .read-as) (info .is) (flags .is ∙ ap (λ (r : Found). getD (rowWords r) ROW_FLAGS 0) same))
 
 sections-read : (s : List ℕ) (start regexps storage cjs : ℕ) (given : Bool) (sources : ℕ) (v : Sections)
     → saysSections (sections.Got v) ≡ told (sectionsAt start regexps storage cjs given sources s) → SectionsRead s start regexps storage cjs given sources v
@@ -366,4 +367,8 @@ theorems = record {
   writes = λ rows layout start count large b e b′ v. writes v;
   same-rows = λ rows₁ rows₂ layout start count large₁ large₂ b₁ b₂ e₁ e₂ b′ v w. written.same-rows v w;
   one-output = λ rows₁ rows₂ layout start count large b r q b₁ b₂ h k e. outputs.one-output rows₁ rows₂ layout start count large b h k e;
+  place-read = places.place-read;
+  place-refreshed = places.place-refreshed;
+  place-row = places.place-row;
+  place-one = places.place-one;
 }

@@ -1,7 +1,7 @@
 -- docs/FORMAT.md, section 10.1: the worked cases that are proved, P1 to P10, W1 to W5, of which Wn is Pn the other way round, H1 and H2, on which
 -- the modes of decoding strings differ, T1 to T8, texts, and Y1 to Y8, why a function has no handlers, in one list under one statement. A case is any
 -- statement over the promises' definitions.
-use Prim.Native.Nat.{ℕ, zero, suc, _-_, _*_}
+use Prim.Native.Nat.{ℕ, zero, suc, _+_, _-_, _*_, _≤_}
 use mathlib.Core.Path.{_≡_}
 use mathlib.Core.List.{List, [], _∷_, _++_}
 use lib.IntN.{pos, negsuc}
@@ -15,10 +15,11 @@ use Rattle.hbc_io_leb.specs.Leb.{lebBytes, signedOf}
 use Rattle.hbc_function_record.specs.declared.Layout.{Layout}
 use Rattle.hbc_function_record.specs.declared.Layout.the-variants.{Legacy16, Modern12}
 use Rattle.hbc_function_record.specs.declared.Record.{Record}
+use Rattle.hbc_function_record.specs.declared.Found.{Found}
 use Rattle.hbc_function_record.specs.declared.Record.the-variants as rec
-use Rattle.hbc_function_record.specs.Record.{legacyPlace, modernPlace}
-use Rattle.hbc_function_record.specs.Row.{width, rowWords}
-use Rattle.hbc_function_header.specs.Header.{functionAt, readFunction}
+use Rattle.hbc_function_record.specs.Record.{largeOf, legacyPlace, modernPlace}
+use Rattle.hbc_function_record.specs.Row.{width, recordWidth, inline, rowWords, foundAt}
+use Rattle.hbc_function_header.specs.Header.{largeFound, functionAt, readFunction}
 use Rattle.hbc_function.specs.Table as functions
 use Rattle.hbc_rows.specs.Rows.{rowAt}
 use Rattle.hbc_function_bytes.specs.Bytes.{inlineBytes}
@@ -37,7 +38,19 @@ use Rattle.hbc_parsing_handlers.specs.declared.Why.the-variants.{Shown, Hidden}
 use Rattle.hbc_parsing_handlers.specs.Why.{table, whyAnswer}
 use Rattle.hbc_c_parsing.specs.Parsing.{whyNumber}
 
--- function 0 of the table at 0 (P1, P2, P5) is answered by `readFunction`, the packed place of a record (P3, P4) by `legacyPlace` and `modernPlace`
+-- function 0 of the table at 0 (P1, P2, P5) is answered by `readFunction`, with the place of its large header, which is the last word of its row
+
+-- the headers of P3 and P4, flagged, and behind them whatever the file has
+abbrev pub legacyHead : List ℕ → List ℕ
+legacyHead s = 16 ∷ 0 ∷ 1 ∷ 4 ∷ 10 ∷ 128 ∷ 1 ∷ 0 ∷ 1 ∷ 0 ∷ 0 ∷ 10 ∷ 1 ∷ 2 ∷ 3 ∷ 36 ∷ s
+
+abbrev pub modernHead : List ℕ → List ℕ
+modernHead s = 32 ∷ 0 ∷ 0 ∷ 69 ∷ 10 ∷ 64 ∷ 0 ∷ 41 ∷ 6 ∷ 7 ∷ 72 ∷ 36 ∷ s
+
+-- the packed place of a record (P3, P4); and the function with such a header is read from there, and found with that place, in every file that is long enough
+abbrev pub Placed : Layout → ℕ → (List ℕ → List ℕ) → ℕ → Type 0
+Placed layout packed head place =
+    (packed ≡ place) × ((s : List ℕ) → place + largeOf layout ≤ length (head s) → functionAt (head s) layout 0 0 ≡ gives (largeFound (head s) layout place 0))
 
 -- a flagged header at 0 that names the place behind it, and so many zeros there
 abbrev pub modernFile : ℕ → List ℕ
@@ -47,7 +60,7 @@ abbrev pub legacyFile : ℕ → List ℕ
 legacyFile zeros = 16 ∷ replicate 14 0 ++ 32 ∷ replicate zeros 0
 
 -- one function of the table at 0, whose packed place is this, in a file of so many bytes: what it is read as, and what a table of one row becomes
-abbrev pub Large : Layout → List ℕ → ℕ → ℕ → Answer Record → Answer (Unit {0}) → List ℕ → Type 0
+abbrev pub Large : Layout → List ℕ → ℕ → ℕ → Answer Found → Answer (Unit {0}) → List ℕ → Type 0
 Large layout s place bytes one all row =
     (packedAt s layout 0 ≡ place) × (length s ≡ bytes) × (readFunction s layout 0 0 ≡ one) × (functions.readAnswer s layout 0 1 width ≡ all)
     × (written (functions.readAnswer s layout 0 1 width) (functions.putRows functions.all (functionAt s layout 0) (replicate width 9) 1)
@@ -70,16 +83,20 @@ Reads s count used kinds payloads =
     (seriesAnswer s 0 count count count ≡ gives used)
     × (_≡_ {A = List ℕ × List ℕ} (seriesTables s 0 count (replicate count 0) (replicate count 0)) (kinds, payloads))
 
--- a record's row written as a table of one at 0, its large header from a place on, over so many bytes of 9: the answer, and the bytes afterwards
+-- a record's row written as a table of one at 0, its large header from a place on, over so many bytes of 9: the answer, and the bytes afterwards. The
+-- row's last word is 9, which is no place of anything here
+abbrev pub rowOf : Record → List ℕ
+rowOf r = rowWords (foundAt 9 r)
+
 abbrev pub Writes : Layout → Record → ℕ → ℕ → Answer ℕ → List ℕ → Type 0
 Writes layout r large bytes answer after =
-    (writeAnswer (rowWords r) layout 0 1 large (replicate bytes 9) ≡ answer)
-    × (written (writeAnswer (rowWords r) layout 0 1 large (replicate bytes 9))
-    (putHeaders layout (rowAt width (rowWords r)) 0 large 1 (replicate bytes 9)) (replicate bytes 9) ≡ after)
+    (writeAnswer (rowOf r) layout 0 1 large (replicate bytes 9) ≡ answer)
+    × (written (writeAnswer (rowOf r) layout 0 1 large (replicate bytes 9))
+    (putHeaders layout (rowAt width (rowOf r)) 0 large 1 (replicate bytes 9)) (replicate bytes 9) ≡ after)
 
 -- the inline header of a record's row whose large header is at a place: its bytes, and their packed place
 abbrev pub Points : Layout → Record → ℕ → List ℕ → Type 0
-Points layout r place bytes = (inlineBytes layout (headOf layout (rowAt width (rowWords r)) place 0) ≡ bytes) × (packedAt bytes layout 0 ≡ place)
+Points layout r place bytes = (inlineBytes layout (headOf layout (rowAt width (rowOf r)) place 0) ≡ bytes) × (packedAt bytes layout 0 ≡ place)
 
 -- so many of the same after another
 abbrev times : ℕ → List ℕ → List ℕ
@@ -102,18 +119,21 @@ counting low high more = replicate 48 0 ++ low ∷ high ∷ replicate more 0
 abbrev pub cases : List {1} (Type 0)
 cases =
     -- P1
-    (readFunction (0 ∷ 1 ∷ 0 ∷ 4 ∷ 10 ∷ 128 ∷ 1 ∷ 0 ∷ 0 ∷ 0 ∷ 0 ∷ 10 ∷ 1 ∷ 2 ∷ 3 ∷ 4 ∷ []) Legacy16 0 0 ≡ gives (rec.Legacy (legacy 256 2 10 3 0 5 1 2 3 4)))
+    (readFunction (0 ∷ 1 ∷ 0 ∷ 4 ∷ 10 ∷ 128 ∷ 1 ∷ 0 ∷ 0 ∷ 0 ∷ 0 ∷ 10 ∷ 1 ∷ 2 ∷ 3 ∷ 4 ∷ []) Legacy16 0 0
+    ≡ gives (foundAt inline (rec.Legacy (legacy 256 2 10 3 0 5 1 2 3 4))))
     -- P2
-    ∷ (readFunction (0 ∷ 1 ∷ 0 ∷ 68 ∷ 10 ∷ 192 ∷ 0 ∷ 41 ∷ 6 ∷ 7 ∷ 72 ∷ 4 ∷ []) Modern12 0 0 ≡ gives (rec.Modern (modern 256 2 1 10 3 4 5 6 7 8 1 0 4 0)))
+    ∷ (readFunction (0 ∷ 1 ∷ 0 ∷ 68 ∷ 10 ∷ 192 ∷ 0 ∷ 41 ∷ 6 ∷ 7 ∷ 72 ∷ 4 ∷ []) Modern12 0 0
+    ≡ gives (foundAt inline (rec.Modern (modern 256 2 1 10 3 4 5 6 7 8 1 0 4 0))))
     -- P3
-    ∷ (legacyPlace (legacy 65552 2 10 3 1 5 1 2 3 4) ≡ 65552)
+    ∷ Placed Legacy16 (legacyPlace (legacy 65552 2 10 3 1 5 1 2 3 4)) legacyHead 65552
     -- P4
-    ∷ (modernPlace (modern 16777248 2 1 10 1 4 5 6 7 8 1 0 4 0) ≡ 16777248)
+    ∷ Placed Modern12 (modernPlace (modern 16777248 2 1 10 1 4 5 6 7 8 1 0 4 0)) modernHead 16777248
     -- P5
-    ∷ Large Modern12 (modernFile 37) 12 49 (gives (rec.Modern (modern 0 0 0 0 0 0 0 0 0 0 0 0 0 52))) (gives tt) (1 ∷ replicate 5 0 ++ 52 ∷ replicate 9 0)
-    ∷ Large Modern12 (modernFile 36) 12 48 (refusedAt 3 0) (refusedAt 3 0) (replicate 16 9)
-    ∷ Large Legacy16 (legacyFile 31) 16 47 (gives (rec.Legacy (legacy 0 0 0 0 0 0 0 0 0 0))) (gives tt) (replicate 16 0)
-    ∷ Large Legacy16 (legacyFile 30) 16 46 (refusedAt 3 0) (refusedAt 3 0) (replicate 16 9)
+    ∷ Large Modern12 (modernFile 37) 12 49 (gives (foundAt 12 (rec.Modern (modern 0 0 0 0 0 0 0 0 0 0 0 0 0 52)))) (gives tt)
+    (1 ∷ replicate 5 0 ++ 52 ∷ replicate 9 0 ++ 12 ∷ [])
+    ∷ Large Modern12 (modernFile 36) 12 48 (refusedAt 3 0) (refusedAt 3 0) (replicate width 9)
+    ∷ Large Legacy16 (legacyFile 31) 16 47 (gives (foundAt 16 (rec.Legacy (legacy 0 0 0 0 0 0 0 0 0 0)))) (gives tt) (replicate recordWidth 0 ++ 16 ∷ [])
+    ∷ Large Legacy16 (legacyFile 30) 16 46 (refusedAt 3 0) (refusedAt 3 0) (replicate width 9)
     -- P6: start 3 length 0 is valid, start 4 length 0 is not
     ∷ Decodes 1 [] (6 ∷ []) (9 ∷ 9 ∷ 9 ∷ 9 ∷ []) (3 ∷ 0 ∷ 0 ∷ 0 ∷ [])
     ∷ Decodes 1 [] (8 ∷ []) (9 ∷ 9 ∷ 9 ∷ 9 ∷ []) (0 ∷ 0 ∷ 1 ∷ 0 ∷ [])

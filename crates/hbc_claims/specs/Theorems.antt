@@ -1,4 +1,4 @@
--- docs/FORMAT.md, section 1.6, each part naming its own: every theorem on calls in full: the words in eleven sections, and at the end the theorems
+-- docs/FORMAT.md, section 1.6, each part naming its own: every theorem on calls in full: the words in twelve sections, and at the end the theorems
 -- themselves, in one record, under the names in brackets; proofs/Proved proves them. The promises that they speak of (`ReadFunctions`, ..) are what the
 -- calls' contracts cite (docs/PROMISES.md), the terms are those of hbc_claims_law/specs/Terms. n is a cursor as a call leaves it, t′ a table.
 use Prim.Native.Nat.{ℕ, suc, _+_, _*_, _%_, _^_, _≤_, _<_}
@@ -48,12 +48,14 @@ use Rattle.hbc_function_record.specs.declared.Layout.{Layout}
 use Rattle.hbc_function_record.specs.declared.Legacy.{Legacy}
 use Rattle.hbc_function_record.specs.declared.Modern.{Modern}
 use Rattle.hbc_function_record.specs.declared.Record.{Record}
+use Rattle.hbc_function_record.specs.declared.Found.{Found}
 use Rattle.hbc_function_record.specs.BitLayout.{fieldsIn}
-use Rattle.hbc_function_record.specs.Record.{sizeOf, largeOf, largeAt, legacyPlace, modernPlace}
-use Rattle.hbc_function_record.specs.Row.{width}
+use Rattle.hbc_function_record.specs.Record.{sizeOf, largeOf, legacyPlace, modernPlace}
+use Rattle.hbc_function_record.specs.Row.{width, rowWords, foundAt}
+use Rattle.hbc_function_header.specs.declared.Function.the-variants as function
 use Rattle.hbc_function_header.specs.declared.Reading.{Reading}
 use Rattle.hbc_function_header.specs.declared.Reading.the-variants as reading
-use Rattle.hbc_function_header.specs.Header.{saysReading, headerAt, recordAt, functionAt, FunctionRow}
+use Rattle.hbc_function_header.specs.Header.{saysFunction, saysReading, headerAt, largeFound, recordAt, functionAt, readFunction, FunctionRow}
 use Rattle.hbc_function_header.specs.Meets.{overlap, meets}
 use Rattle.hbc_function.specs.declared.Refreshed.{Refreshed}
 use Rattle.hbc_function.specs.declared.Refreshed.the-variants as refreshed
@@ -122,7 +124,8 @@ use Rattle.hbc_claims_io.specs.Reader.{Lent, New, Position, Remaining, Seek, U3
 use Rattle.hbc_claims_function.specs.Packed as packed
 use Rattle.hbc_claims_function.specs.BitLayout.{Covers, Named}
 use Rattle.hbc_claims_function.specs.Unique as u-function
-use Rattle.hbc_claims_function.specs.Written.{Written, ReadsBack, Headed, Kept, Placed}
+use Rattle.hbc_claims_function.specs.Places.{Tells}
+use Rattle.hbc_claims_function.specs.Written.{Written, ReadsBack, SameRecords, Headed, Kept, Placed}
 use Rattle.hbc_claims_table.specs.Unique as u-table
 use Rattle.hbc_claims_table.specs.Within.{Within}
 use Rattle.hbc_claims_table.specs.Before as was
@@ -193,7 +196,7 @@ pub record Edited (a b : List ℕ) (layout : Layout) (start count low high : ℕ
 pub record AsFresh (r : Reading) (q : Refreshed) (t₁ t₂ t₃ : List ℕ) : Type 0 where
   -- (a) the refresh is accepted exactly when the fresh read is, and else refused with the same number at the same function
   pub answers : saysReading r ≡ asked (saysRefreshed q)
-  -- (b) accepted, it leaves the fresh read's table, every word; refused, the table as it was
+  -- (b) accepted, it leaves the fresh read's table, every word, the 17 of each row among them; refused, the table as it was
   pub accepted : r ≡ reading.Read → t₃ ≡ t₂
   pub refused : (x : Refusal) → r ≡ reading.Refused x → t₃ ≡ t₁
 
@@ -342,7 +345,7 @@ pub record Packed (s : List ℕ) (at i : ℕ) : Type 0 where
   pub not-added : legacyPlace (packed.legacy 65552 2 10 3 1 5 1 2 3 4) ≡ 1 * 65536 + 65552 → ⊥
   -- a flagged header is read from the large one at its packed place, whatever that one's own flags: they are a field, and are not followed
   pub large : (layout : Layout) → at + sizeOf layout ≤ length s → flagged s layout at ≡ true → packedAt s layout at + largeOf layout ≤ length s
-      → recordAt s layout at i ≡ gives (largeAt s layout (packedAt s layout at) i)
+      → recordAt s layout at i ≡ gives (largeFound s layout (packedAt s layout at) i)
 
 -- the fields of an inline header, of the two lists that readers and writer go by: they join without a gap from bit 0 to bit 127 in legacy, to bit 95 in
 -- modern, and every bit is one of a field, and of one alone (`covered`; Covers in hbc_claims_function/specs/BitLayout); each field of a record is what the
@@ -461,10 +464,11 @@ pub record DebugRead (b : Contents) (t : Tables) (k : Counts) (e : Bool) (t′ :
 -- ==== 9. Writing a table of functions (docs/FORMAT.md, section 3.9); each part stands in full in hbc_claims_function/specs/Written
 -- given (`Written`): rows of u32 words, and an accepted write of them (write_functions) that makes b into b′ and answers e; then (`writes`):
 pub record Writes (rows : List ℕ) (layout : Layout) (start count large : ℕ) (b : List ℕ) (e : ℕ) (b′ : List ℕ) : Type 0 where
-  -- any read_functions of b′ into a table with room for the rows is accepted, and leaves the rows and, behind them, every word as it was
-  pub back : ReadsBack rows layout start count b′
+  -- any read_functions of b′ into a table with room for the rows is accepted, and leaves in each row the first 16 words of the row that was written and,
+  -- as 17th, the place where its large header was put, or 2^32 - 1 if it has none; and behind the rows every word as it was
+  pub back : ReadsBack rows layout start count large b′
   -- row i's header is flagged exactly when the row does not go inline, and its packed place is then where its large header is; the function that is
-  -- found there has the words of row i
+  -- found there has those words
   pub header : (i : ℕ) → i < count → Headed b′ layout (rowAt width rows) start large i
   -- the buffer is as long as before, and every byte of no header, inline or large, is as it was
   pub kept : Kept layout (rowAt width rows) start large count b b′
@@ -512,6 +516,13 @@ pub record Texts : Type 0 where
 -- hbc_why_no_handlers, which answers r and leaves n′ where n was, tells what why_no_handlers answers: 0 shown, n′ being how many; 1 to 7 the reasons in
 -- their order, else the refusal, n′ being n (`explained-told`; in full `WhyTold`)
 
+-- ==== 12. The place of a large header in its row (docs/FORMAT.md, section 3.4); in full `Tells` in hbc_claims_function/specs/Places
+-- the last word of a row that read_functions, refresh_functions or function_row wrote, function i's header being at a place: where the header is not flagged
+-- it is 2^32 - 1, and the other 16 words are that header's own record's; where it is, it is the packed place, and they are the record's of the large header
+-- at just that place. It is 2^32 - 1 only of a header that is not flagged: any other is below 2^30, and the large header that it names lies in the file.
+-- Of a table read (`place-read`), of each row that a refresh wrote (`place-refreshed`; the others it does not touch), of one row (`place-row`), and of the
+-- record and the place that read_function answers, as the row that they make (`place-one`)
+
 -- ==== The theorems
 pub record Theorems : Type 2 where
   pub worked : All cases
@@ -552,7 +563,7 @@ pub record Theorems : Type 2 where
   pub explained-rows : (s functions : List ℕ) (id count : ℕ) (t : List ℕ) (r : Explained) (n : ℕ) (t′ : List ℕ) → id < count
       → WhyNoHandlers s functions id r → ReadHandlers s functions count t (listed.Rows n) t′ → Lists id r n t′
   pub explained-header : (s : List ℕ) (layout : Layout) (start count : ℕ) (t t′ : List ℕ) → ReadFunctions s layout start count t reading.Read t′
-      → (id : ℕ) → id < count → (own : Record) × (functionAt s layout start id ≡ gives own) × OfRecord own t′ id
+      → (id : ℕ) → id < count → (f : Found) × (functionAt s layout start id ≡ gives f) × OfRecord (f .own) t′ id
   pub explained-told : (s functions : List ℕ) (id n r n′ : ℕ) → ToldWhy s functions id n r n′
       → (q : Explained) × WhyNoHandlers s functions id q × WhyTold q n r n′
   pub sections-read : (s : List ℕ) (start regexps storage cjs : ℕ) (given : Bool) (sources : ℕ) (v : Sections)
@@ -561,11 +572,20 @@ pub record Theorems : Type 2 where
       → ReadDebug file offset t (debugged.Read k e) t′ → DebugRead (contentsAt file offset) t k e t′
   pub writes : (rows : List ℕ) (layout : Layout) (start count large : ℕ) (b : List ℕ) (e : ℕ) (b′ : List ℕ)
       → Written rows layout start count large b e b′ → Writes rows layout start count large b e b′
-  -- two writes that leave the same buffer were of the same rows, wherever their large headers went and whatever the buffers were before
+  -- two writes that leave the same buffer were of the same rows but for the 17th word, wherever their large headers went and whatever the buffers were
   pub same-rows : (rows₁ rows₂ : List ℕ) (layout : Layout) (start count large₁ large₂ : ℕ) (b₁ b₂ : List ℕ) (e₁ e₂ : ℕ) (b′ : List ℕ)
       → Written rows₁ layout start count large₁ b₁ e₁ b′ → Written rows₂ layout start count large₂ b₂ e₂ b′
-      → take (count * width) rows₁ ≡ take (count * width) rows₂
-  -- and the same rows, whatever is lent behind them, give one answer and one buffer
+      → SameRecords rows₁ rows₂ count
+  -- and the same rows, whatever their 17th words and whatever is lent behind them, give one answer and one buffer: the writer does not look at those
   pub one-output : (rows₁ rows₂ : List ℕ) (layout : Layout) (start count large : ℕ) (b : List ℕ) (r q : Wrote) (b₁ b₂ : List ℕ)
-      → count * width ≤ length rows₁ → count * width ≤ length rows₂ → take (count * width) rows₁ ≡ take (count * width) rows₂
+      → count * width ≤ length rows₁ → count * width ≤ length rows₂ → SameRecords rows₁ rows₂ count
       → WriteFunctions rows₁ layout start count large b r b₁ → WriteFunctions rows₂ layout start count large b q b₂ → (r ≡ q) × (b₁ ≡ b₂)
+  pub place-read : (s : List ℕ) (layout : Layout) (start count : ℕ) (t t′ : List ℕ) → ReadFunctions s layout start count t reading.Read t′
+      → (i : ℕ) → i < count → Tells s layout (headerAt layout start i) i (rowAt width t′ i)
+  pub place-refreshed : (s : List ℕ) (layout : Layout) (start count low high k : ℕ) (t t′ : List ℕ)
+      → RefreshFunctions s layout start count low high t (refreshed.Done k) t′ → (i : ℕ) → i < count → meets s layout start low high i ≡ true
+      → Tells s layout (headerAt layout start i) i (rowAt width t′ i)
+  pub place-row : (s : List ℕ) (layout : Layout) (start i : ℕ) (row row′ : List ℕ) → FunctionRow s layout start i row reading.Read row′
+      → Tells s layout (headerAt layout start i) i row′
+  pub place-one : (s : List ℕ) (layout : Layout) (start i : ℕ) (r : Record) (place : ℕ) → saysFunction (function.Read r place) ≡ readFunction s layout start i
+      → Tells s layout (headerAt layout start i) i (rowWords (foundAt place r))

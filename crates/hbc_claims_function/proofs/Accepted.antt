@@ -1,16 +1,11 @@
 -- What an accepted call says of its tests, and what a refused one leaves.
-use Prim.Native.Nat.{ℕ, zero, suc, _≤_, _<_}
+use Prim.Native.Nat.{ℕ}
 use mathlib.Core.Path.{_≡_, refl}
 use mathlib.Core.List.{List}
-use mathlib.Core.Bool.{Bool, true, false, cond}
-use native.Mathlib.Omega.{arith}
-use lib.Dec.{ltb}
-use borrow.Author.Tests.{ltb-true, ltb-false}
-use Rattle.hbc_io.specs.Outcome.{refusalAt}
 use Rattle.hbc_io.specs.declared.Refusal.{Refusal}
 use Rattle.hbc_function_record.specs.declared.Layout.{Layout}
 use Rattle.hbc_function_header.specs.declared.Reading.the-variants as reading
-use Rattle.hbc_io.specs.Answer.{Answer, gives, refuses, asked, andThen}
+use Rattle.hbc_io.specs.Answer.{Answer, gives, refuses, asked}
 use Rattle.hbc_function_header.specs.Header.{functionAt, FunctionRow}
 use Rattle.hbc_function.specs.declared.Refreshed.the-variants as refreshed
 use Rattle.hbc_function.specs.Table.{scan, all, readAnswer, ReadFunctions}
@@ -19,7 +14,7 @@ use Rattle.hbc_io.proofs.Exits.{not-given, reached}
 use Rattle.hbc_rows.specs.Rows.{rowAt}
 use Rattle.hbc_function_record.specs.Row.{width}
 use Rattle.hbc_function_bytes.specs.Bytes.{rightRow}
-use Rattle.hbc_function_write.specs.Write.{rightEnd, checked, follows, writeAnswer}
+use Rattle.hbc_function_write.specs.Write.{rightEnd, writeAnswer}
 use Rattle.hbc_function_write.proofs.Plans.{through, all-checked}
 use Rattle.hbc_claims_function.specs.Accepted.{Accepted, Refreshable, Writable}
 
@@ -46,7 +41,7 @@ refreshable s layout start count low high words k e =
     let d = reached _ _ _ _ not-given (c .1) in
     let f = reached _ _ _ _ not-given (d .1) in
     let g = reached _ _ _ _ not-given (f .1) in
-    record { holds = f .0; scans = g .1 }
+    record { short = a .0; holds = f .0; scans = g .1 }
 
 -- ---- a write
 

@@ -14,6 +14,7 @@ use Rattle.hbc_function_record.specs.declared.Layout.{Layout}
 use Rattle.hbc_function_record.specs.declared.Layout.the-variants as lay
 use Rattle.hbc_function_record.specs.declared.Legacy.{Legacy}
 use Rattle.hbc_function_record.specs.declared.Modern.{Modern}
+use Rattle.hbc_function_record.specs.declared.Record.{Record}
 use Rattle.hbc_function_record.specs.declared.Record.the-variants as rec
 use Rattle.hbc_function_record.specs.declared.Link.{Link}
 use Rattle.hbc_function_record.specs.declared.Link.the-variants as link
@@ -22,6 +23,7 @@ use Rattle.hbc_function_header.specs.declared.Ground.the-variants as ground
 use Rattle.hbc_function_header.specs.declared.Where.the-variants as wh
 use Rattle.hbc_io.specs.Answer.{gives, asked}
 use Rattle.hbc_function_record.specs.Record.{sizeOf, largeOf, inlineOf, largeAt, linkOf, legacyLarge, modernLarge}
+use Rattle.hbc_function_record.specs.Row.{foundAt, inlineFound}
 use Rattle.hbc_function_header.specs.Header.{headerAt, groundBy, groundOf, groundAt, whereOf, whereAt, found, recordAt, functionAt}
 use Rattle.hbc_function_header.specs.Meets.{overlap, groundMeets, meets}
 use Rattle.hbc_claims_law.specs.Terms.{Same}
@@ -97,12 +99,12 @@ module _ {a b : List ℕ} {low high : ℕ} (v : Same a b low high) (layout : Lay
       → found a layout at i (cond past (wh.Refused 2) (cond cut (wh.Refused 3) (wh.Large place))) ≡ found b layout at i (cond past (wh.Refused 2) (cond cut (wh.Refused 3) (wh.Large place)))
   large-found place o true cut = refl
   large-found place o false true = refl
-  large-found place o false false = ap gives (large-same a b layout place i (agrees v place (largeOf layout) o))
+  large-found place o false false = ap (λ (r : Record). gives (foundAt place r)) (large-same a b layout place i (agrees v place (largeOf layout) o))
 
   same-found : (l : Link) → groundMeets (sizeOf layout) (largeOf layout) low high (groundBy at l) ≡ false
       → found a layout at i (whereOf b (largeOf layout) (groundBy at l)) ≡ found b layout at i (whereOf b (largeOf layout) (groundBy at l))
   unfolding groundMeets whereOf below
-  same-found link.Own o = ap (λ (n : ℕ). gives (inlineOf layout i n)) e
+  same-found link.Own o = ap (λ (n : ℕ). gives (inlineFound layout i n)) e
   same-found (link.Large place) o =
       large-found place (or-right (overlap at (sizeOf layout) low high) (overlap place (largeOf layout) low high) o) (ltb (length b) place) (ltb (length b) (place + largeOf layout))
 

@@ -1,31 +1,29 @@
 -- A header whose bytes stand in a file is read as the values that they were made of, in either layout.
-use Prim.Native.Nat.{ℕ, _+_, _*_, _/_, _%_, _^_, _<_}
+use Prim.Native.Nat.{ℕ, zero, suc, _+_, _*_, _/_, _%_, _^_, _≤_, _<_}
 use mathlib.Core.Path.{_≡_, refl, sym, ap, _∙_}
 use mathlib.Core.List.{List, [], _∷_}
 use mathlib.Core.Bool.{Bool, true, false, not, cond}
 use native.Mathlib.Nat.{div-add-mod', mod-mod, add-zero, add-assoc}
 use native.Mathlib.Omega.{arith}
 use lib.Bits.{or-shifted}
-use lib.ListN.{length, getD}
-use lib.Seq.{take-all}
+use lib.ListN.{length, getD, take, drop}
+use lib.Seq.{drop-cons}
 use lib.Dec.{ltb, eqb}
 use borrow.Author.Tests.{lt-ltb, ltb-true, eqb-true}
 use Rattle.hbc_bits.specs.Bits.{leAt, field}
 use Rattle.hbc_bits.specs.Fields.{fieldsOf, joined, fit, bytesOf, laid}
 use Rattle.hbc_bits.proofs.Fields.{both, sideBySide, cut-joined, joined-lt, bytes-length}
-use Rattle.hbc_rows.specs.Rows.{rowAt}
 use Rattle.hbc_rows.proofs.Puts.{Stands, stands-le, stands-first, stands-then}
 use Rattle.hbc_function_record.specs.declared.Layout.{Layout}
 use Rattle.hbc_function_record.specs.declared.Layout.the-variants as lay
 use Rattle.hbc_function_record.specs.declared.Record.{Record}
 use Rattle.hbc_function_record.specs.declared.Record.the-variants as rec
 use Rattle.hbc_function_record.specs.Record.{sizeOf, largeOf, legacyBy, modernBy, legacyOf, modernOf, inlineOf, legacyLarge, modernLarge, largeAt, flagsOf, overflowed, legacyPlace, modernPlace, placeOf}
-use Rattle.hbc_function_record.specs.Row.{width, ROW_LAYOUT, ROW_ID, ROW_FLAGS, numberIn, legacyWords, modernWords, rowWords}
+use Rattle.hbc_function_record.specs.Row.{width, recordWidth, ROW_LAYOUT, ROW_ID, ROW_FLAGS, numberIn, legacyWords, modernWords, recordWords}
 use Rattle.hbc_function_record.specs.BitLayout.{fieldsIn}
 use Rattle.hbc_function_bytes.specs.Bytes.{sizesIn, wordsAt, valuesIn, infoFree, goesInline, inlineNumber, inlineBytes, largeBytes, pointerTo, each, byteWide, zerosIn, rightRow}
 use Rattle.hbc_function_bytes.proofs.Sums.{infoOf}
 use Rattle.hbc_function_write.specs.Write.{rounded, saysEnd}
-use Rattle.hbc_function_write.proofs.Plans.{row-listed}
 
 -- ---- values that stand one after another
 
@@ -157,10 +155,17 @@ pub large-info : (layout : Layout) (i : ℕ) (w vs : List ℕ) (end : ℕ) → s
 large-info lay.Legacy16 i w vs end h = refl
 large-info lay.Modern12 i w vs end h = ap (λ (n : ℕ). recordBy lay.Modern12 i n vs) (sym (eqb-true (getD w 6 0) end h))
 
--- the only row of a list of sixteen words is that list
-whole : (w : List ℕ) → length w ≡ width → rowAt width w 0 ≡ w
-unfolding rowAt
-whole w l = take-all width w (omega arith)
+-- n words of a list, one by one, from word d on
+abbrev listed : ℕ → ℕ → List ℕ → List ℕ
+listed d zero w = []
+listed d (suc n) w = getD w d 0 ∷ listed (suc d) n w
+
+listed-part : (n d : ℕ) (w : List ℕ) → d + n ≤ length w → listed d n w ≡ take n (drop d w)
+listed-part zero d w h = refl
+listed-part (suc n) d w h = rw (drop-cons w d 0 (omega arith)) (ap (getD w d 0 ∷_) (listed-part n (suc d) w (omega arith)))
+
+row-listed : (w : List ℕ) → length w ≡ width → listed 0 recordWidth w ≡ take recordWidth w
+row-listed w l = listed-part recordWidth 0 w (omega arith)
 
 right-parts : (layout : Layout) (i : ℕ) (w : List ℕ) → rightRow layout i w ≡ true
     → (getD w ROW_LAYOUT 0 ≡ numberIn layout) × (getD w ROW_ID 0 ≡ i) × (each (λ v. ltb v 256) (wordsAt (byteWide layout) w) ≡ true)
@@ -173,8 +178,9 @@ right-parts layout i w h =
     let d = both (each (λ v. eqb v 0) (wordsAt (zerosIn layout) w)) (c .1) in
     (eqb-true (getD w ROW_LAYOUT 0) (numberIn layout) (a .0), eqb-true (getD w ROW_ID 0) i (b .0), c .0, d .0)
 
--- the words of its record are the row
-pub row-back : (layout : Layout) (i : ℕ) (w : List ℕ) → length w ≡ width → rightRow layout i w ≡ true → rowWords (recordBy layout i (infoOf layout w) (valuesIn layout w)) ≡ w
+-- the words of its record are the row's first
+pub row-back : (layout : Layout) (i : ℕ) (w : List ℕ) → length w ≡ width → rightRow layout i w ≡ true
+    → recordWords (recordBy layout i (infoOf layout w) (valuesIn layout w)) ≡ take recordWidth w
 unfolding legacyWords modernWords legacyBy modernBy valuesIn
 row-back lay.Legacy16 i w l h =
     let p = right-parts lay.Legacy16 i w h in
@@ -188,14 +194,14 @@ row-back lay.Legacy16 i w l h =
     let e6 = eqb-true (getD w 13 0) 0 (b .0) in
     let e7 = eqb-true (getD w 14 0) 0 (c .0) in
     let e8 = eqb-true (getD w 15 0) 0 (d .0) in
-    sym (sym (row-listed w 0 (omega arith) ∙ whole w l)
+    sym (sym (row-listed w l)
     ∙ (λ j. e0 j ∷ e1 j ∷ getD w 2 0 ∷ getD w 3 0 ∷ getD w 4 0 ∷ getD w 5 0 ∷ getD w 6 0 ∷ getD w 7 0 ∷ getD w 8 0 ∷ getD w 9 0 ∷ getD w 10 0 ∷ getD w 11 0
     ∷ e5 j ∷ e6 j ∷ e7 j ∷ e8 j ∷ []))
 row-back lay.Modern12 i w l h =
     let p = right-parts lay.Modern12 i w h in
     let e0 = p .0 in
     let e1 = p .1 in
-    sym (sym (row-listed w 0 (omega arith) ∙ whole w l)
+    sym (sym (row-listed w l)
     ∙ (λ j. e0 j ∷ e1 j ∷ getD w 2 0 ∷ getD w 3 0 ∷ getD w 4 0 ∷ getD w 5 0 ∷ getD w 6 0 ∷ getD w 7 0 ∷ getD w 8 0 ∷ getD w 9 0 ∷ getD w 10 0 ∷ getD w 11 0
     ∷ getD w 12 0 ∷ getD w 13 0 ∷ getD w 14 0 ∷ getD w 15 0 ∷ []))
 

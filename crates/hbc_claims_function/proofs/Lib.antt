@@ -8,6 +8,7 @@ pub mod Meeting
 pub mod Tables
 pub mod Refreshed
 pub mod Packed
+pub mod Places
 pub mod Headers
 pub mod BitLayout
 pub mod Holds

@@ -18,7 +18,8 @@ use Rattle.hbc_io.specs.Answer.{gives}
 use Rattle.hbc_io.specs.Lends.{below, choose}
 use Rattle.hbc_function_record.specs.declared.Layout.{Layout}
 use Rattle.hbc_function_record.specs.Record.{sizeOf, largeOf, inlineOf, largeAt, flagsOf, placeOf, linkOf, legacyOf, modernOf, legacyLarge, modernLarge, overflowed, legacyPlace, modernPlace, legacyBy, modernBy}
-use Rattle.hbc_function_header.specs.Header.{groundOf, whereOf, whereAt, recordAt, functionAt, readFunction}
+use Rattle.hbc_function_record.specs.Row.{foundAt, inlineFound}
+use Rattle.hbc_function_header.specs.Header.{groundOf, whereOf, whereAt, largeFound, recordAt, functionAt, readFunction}
 use Rattle.hbc_claims_law.specs.Terms.{Either, left, right, OrBit, flagged, packedAt}
 use Rattle.hbc_claims_function.specs.Packed.{legacy, modern}
 
@@ -58,7 +59,7 @@ modern-bits r b = or-bit b (r .name * 2 ^ 24) (r .offset % 2 ^ 24)
 
 -- a flagged header that fits, with a large one at its packed place that fits, is read as that, whatever the large one's own flags
 pub large : (s : List ℕ) (layout : Layout) (at i : ℕ) → at + sizeOf layout ≤ length s → flagged s layout at ≡ true → packedAt s layout at + largeOf layout ≤ length s
-    → recordAt s layout at i ≡ gives (largeAt s layout (packedAt s layout at) i)
+    → recordAt s layout at i ≡ gives (largeFound s layout (packedAt s layout at) i)
 unfolding recordAt whereAt groundOf whereOf below choose linkOf
 large s layout at i h f k =
     let l : packedAt s layout at ≤ length s = omega arith in
@@ -66,7 +67,7 @@ large s layout at i h f k =
 
 -- one that is not flagged is read from its own bytes
 pub own : (s : List ℕ) (layout : Layout) (at i : ℕ) → at + sizeOf layout ≤ length s → flagged s layout at ≡ false
-    → recordAt s layout at i ≡ gives (inlineOf layout i (leAt s at (sizeOf layout)))
+    → recordAt s layout at i ≡ gives (inlineFound layout i (leAt s at (sizeOf layout)))
 unfolding recordAt whereAt groundOf whereOf below choose linkOf
 own s layout at i h f = rw (le-ltb (length s) (at + sizeOf layout) h, f)
 
@@ -76,7 +77,7 @@ unfolding legacyPlace
 not-added e = let z : _≡_ {A = ℕ} 65552 131088 = e in omega arith
 
 -- a large header that is flagged itself is the record as it stands
-pub not-followed : (readFunction (16 ∷ replicate 14 0 ++ 32 ∷ replicate 30 0 ++ 32 ∷ []) Legacy16 0 0 ≡ gives (rec.Legacy (legacy 0 0 0 0 0 0 0 0 0 32)))
-    × (readFunction (12 ∷ replicate 10 0 ++ 32 ∷ replicate 36 0 ++ 32 ∷ []) Modern12 0 0 ≡ gives (rec.Modern (modern 0 0 0 0 0 0 0 0 0 0 0 0 32 52)))
+pub not-followed : (readFunction (16 ∷ replicate 14 0 ++ 32 ∷ replicate 30 0 ++ 32 ∷ []) Legacy16 0 0 ≡ gives (foundAt 16 (rec.Legacy (legacy 0 0 0 0 0 0 0 0 0 32))))
+    × (readFunction (12 ∷ replicate 10 0 ++ 32 ∷ replicate 36 0 ++ 32 ∷ []) Modern12 0 0 ≡ gives (foundAt 12 (rec.Modern (modern 0 0 0 0 0 0 0 0 0 0 0 0 32 52))))
 unfolding readFunction functionAt recordAt whereAt whereOf groundOf below choose inlineOf largeAt flagsOf placeOf linkOf legacyOf modernOf legacyLarge modernLarge legacyPlace modernPlace leAt field overflowed legacyBy modernBy fieldsOf
 not-followed = (refl, refl)

@@ -10,7 +10,7 @@ use lib.Dec.{ltb}
 use borrow.Author.Tests.{ltb-true, ltb-false}
 use Rattle.hbc_io.specs.Outcome.{limit}
 use Rattle.hbc_function_record.specs.declared.Layout.{Layout}
-use Rattle.hbc_function_record.specs.declared.Record.{Record}
+use Rattle.hbc_function_record.specs.declared.Found.{Found}
 use Rattle.hbc_function_header.specs.declared.Reading.{Reading}
 use Rattle.hbc_function_header.specs.declared.Reading.the-variants as reading
 use Rattle.hbc_io.specs.Answer.{Answer, gives, asked}
@@ -52,7 +52,7 @@ same-answer {a} {b} {low} {high} v l h layout start count words e =
 -- ---- the tables
 
 -- fa's rows, and over them the chosen of fb's, are fb's rows, where fa and fb are the same but for the chosen, and all that is put can be read
-module _ (chosen : ℕ → Bool) (fa fb : ℕ → Answer Record) (same : (i : ℕ) → chosen i ≡ false → fa i ≡ fb i) (n k m : ℕ) (e : scan chosen fb n ≡ gives k)
+module _ (chosen : ℕ → Bool) (fa fb : ℕ → Answer Found) (same : (i : ℕ) → chosen i ≡ false → fa i ≡ fb i) (n k m : ℕ) (e : scan chosen fb n ≡ gives k)
     (all-read : scan all fa n ≡ gives m) (t : List ℕ) (h : n * width ≤ length t) where
   over-long : n * width ≤ length (putRows all fa t n)
   over-long = rw (put-length all fa t n) h

@@ -9,7 +9,7 @@ use lib.ListN.{length}
 use lib.Dec.{eqb}
 use borrow.Author.Tests.{eqb-true, eqb-false}
 use Rattle.hbc_function_record.specs.declared.Layout.{Layout}
-use Rattle.hbc_function_record.specs.declared.Record.{Record}
+use Rattle.hbc_function_record.specs.declared.Found.{Found}
 use Rattle.hbc_io.specs.Answer.{Answer, gives, refuses, asked}
 use Rattle.hbc_io.proofs.Exits.{not-given}
 use Rattle.hbc_function_record.specs.Record.{sizeOf}
@@ -20,29 +20,29 @@ use Rattle.hbc_function.proofs.Laws.{size-pos}
 use Rattle.hbc_claims_function.proofs.Function.{ends}
 use Rattle.hbc_claims_law.specs.Terms.{countOf}
 
--- what is read is a record
-pub a-record : (a : Answer Record) → asked a ≡ gives tt → (r : Record) × (a ≡ gives r)
+-- what is read is found
+pub a-record : (a : Answer Found) → asked a ≡ gives tt → (r : Found) × (a ≡ gives r)
 a-record (gives r) e = (r, refl)
 a-record (refuses x) e = absurd (not-given e)
 
-counted-read : (n k : ℕ) (a : Answer Record) → counted n a ≡ gives k → (asked a ≡ gives tt) × (k ≡ n + 1)
+counted-read : (n k : ℕ) (a : Answer Found) → counted n a ≡ gives k → (asked a ≡ gives tt) × (k ≡ n + 1)
 counted-read n k (gives r) e = (refl, cc)
 counted-read n k (refuses x) e = absurd (not-given e)
 
 -- a step that was accepted
-step-before : (b : Bool) (x : Answer ℕ) (a : Answer Record) (k : ℕ) → step b x a ≡ gives k → (n : ℕ) × (x ≡ gives n)
+step-before : (b : Bool) (x : Answer ℕ) (a : Answer Found) (k : ℕ) → step b x a ≡ gives k → (n : ℕ) × (x ≡ gives n)
 unfolding step
 step-before false x a k e = (k, e)
 step-before true (gives n) a k e = (n, refl)
 step-before true (refuses y) a k e = absurd (not-given e)
 
-step-this : (b : Bool) (x : Answer ℕ) (a : Answer Record) (k : ℕ) → step b x a ≡ gives k → b ≡ true → asked a ≡ gives tt
+step-this : (b : Bool) (x : Answer ℕ) (a : Answer Found) (k : ℕ) → step b x a ≡ gives k → b ≡ true → asked a ≡ gives tt
 unfolding step
 step-this false x a k e p = let z : _≡_ {A = ℕ} 0 1 = cc in absurd (omega arith)
 step-this true (gives n) a k e p = counted-read n k a e .0
 step-this true (refuses y) a k e p = absurd (not-given e)
 
-step-count : (b : Bool) (n k : ℕ) (a : Answer Record) → step b (gives n) a ≡ gives k → k ≡ cond b (n + 1) n
+step-count : (b : Bool) (n k : ℕ) (a : Answer Found) → step b (gives n) a ≡ gives k → k ≡ cond b (n + 1) n
 unfolding step
 step-count false n k a e = cc
 step-count true n k a e = counted-read n k a e .1
@@ -57,7 +57,7 @@ unfolding countOf
 count-le chosen zero = omega arith
 count-le chosen (suc n) = count-step (chosen n) (countOf chosen n) n (count-le chosen n)
 
-module _ (chosen : ℕ → Bool) (f : ℕ → Answer Record) where
+module _ (chosen : ℕ → Bool) (f : ℕ → Answer Found) where
   scan-before : (n k : ℕ) → scan chosen f (suc n) ≡ gives k → (m : ℕ) × (scan chosen f n ≡ gives m)
   unfolding scan
   scan-before n k e = step-before (chosen n) (scan chosen f n) (f n) k e
@@ -89,25 +89,25 @@ module _ (chosen : ℕ → Bool) (f : ℕ → Answer Record) where
 
 -- ---- two scans
 
-asked-counted : (m n : ℕ) (a : Answer Record) → asked (counted m a) ≡ asked (counted n a)
+asked-counted : (m n : ℕ) (a : Answer Found) → asked (counted m a) ≡ asked (counted n a)
 asked-counted m n (gives r) = refl
 asked-counted m n (refuses x) = refl
 
-asked-step : (x y : Answer ℕ) (a : Answer Record) → asked x ≡ asked y → asked (step true x a) ≡ asked (step true y a)
+asked-step : (x y : Answer ℕ) (a : Answer Found) → asked x ≡ asked y → asked (step true x a) ≡ asked (step true y a)
 unfolding step
 asked-step (gives m) (gives n) a e = asked-counted m n a
 asked-step (refuses x) (refuses y) a e = e
 asked-step (gives m) (refuses y) a e = absurd (not-given (sym e))
 asked-step (refuses x) (gives n) a e = absurd (not-given e)
 
-asked-skip : (x : Answer ℕ) (a : Answer Record) → asked a ≡ gives tt → asked (step true x a) ≡ asked x
+asked-skip : (x : Answer ℕ) (a : Answer Found) → asked a ≡ gives tt → asked (step true x a) ≡ asked x
 unfolding step
 asked-skip (gives m) (gives r) e = refl
 asked-skip (gives m) (refuses y) e = absurd (not-given e)
 asked-skip (refuses x) a e = refl
 
 -- fa was read whole; fb is the same where it is not chosen: then reading all of fb ends as reading the chosen of fb does
-module _ (chosen : ℕ → Bool) (fa fb : ℕ → Answer Record) (same : (i : ℕ) → chosen i ≡ false → fa i ≡ fb i) where
+module _ (chosen : ℕ → Bool) (fa fb : ℕ → Answer Found) (same : (i : ℕ) → chosen i ≡ false → fa i ≡ fb i) where
   alike-by : (n : ℕ) (b : Bool) → chosen n ≡ b → asked (fa n) ≡ gives tt → asked (scan all fb n) ≡ asked (scan chosen fb n)
       → asked (step true (scan all fb n) (fb n)) ≡ asked (step b (scan chosen fb n) (fb n))
   unfolding step

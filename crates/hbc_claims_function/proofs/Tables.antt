@@ -26,7 +26,7 @@ row-word : (chosen : ℕ → Bool) (s : List ℕ) (layout : Layout) (start n k :
 row-word chosen s layout start n k t h e i c l p q =
     let f = functionAt s layout start in
     let r = a-record (f i) (scan-each chosen f n k i l e p) in
-    record { record-of = r .0; found = r .1; is = word-at chosen f t n i c (r .0) h l q p (r .1) }
+    record { read-as = r .0; found = r .1; is = word-at chosen f t n i c (r .0) h l q p (r .1) }
 
 pub filled : {s : List ℕ} {layout : Layout} {start count : ℕ} {t t′ : List ℕ} → ReadFunctions s layout start count t reading.Read t′ → Filled s layout start count t t′
 filled {s} {layout} {start} {count} {t} {t′} p =

@@ -3,6 +3,7 @@ use Prim.Native.Nat.{ℕ}
 use mathlib.Core.Path.{_≡_, refl, sym}
 use native.Mathlib.Omega.{arith}
 use Rattle.hbc_io.proofs.Exits.{alone, not-given}
+use Rattle.hbc_function_record.specs.Row.{foundAt}
 use Rattle.hbc_function_header.specs.declared.Function.{Function}
 use Rattle.hbc_function_header.specs.declared.Function.the-variants as fun
 use Rattle.hbc_function_header.specs.declared.Reading.{Reading}
@@ -24,10 +25,10 @@ use Rattle.hbc_claims_function.specs.Unique.{Unique}
 
 -- an answer is known by what it says
 pub one-function : (a b : Function) → saysFunction a ≡ saysFunction b → a ≡ b
-one-function (fun.Read r) (fun.Read q) e = cc
+one-function (fun.Read r p) (fun.Read q n) e = let f : foundAt p r ≡ foundAt n q = cc in λ j. fun.Read (f j .own) (f j .place)
 one-function (fun.Refused r) (fun.Refused q) e = cc
-one-function (fun.Read r) (fun.Refused q) e = absurd (not-given (sym e))
-one-function (fun.Refused r) (fun.Read q) e = absurd (not-given e)
+one-function (fun.Read r p) (fun.Refused q) e = absurd (not-given (sym e))
+one-function (fun.Refused r) (fun.Read q n) e = absurd (not-given e)
 
 pub one-reading : (a b : Reading) → saysReading a ≡ saysReading b → a ≡ b
 one-reading reading.Read reading.Read e = refl

@@ -1,29 +1,27 @@
 -- What an accepted write leaves, from its promise: where its headers are, what stands there as the reader has it, and that reading gives the rows.
 use Prim.Native.Nat.{ℕ, zero, suc, _+_, _*_, _%_, _^_, _≤_, _<_}
 use mathlib.Core.Path.{_≡_, refl, sym, ap, _∙_}
-use mathlib.Core.List.{List, [], _∷_, _++_}
-use mathlib.Core.Bool.{Bool, true, false}
+use mathlib.Core.List.{List, [], _∷_}
+use mathlib.Core.Bool.{Bool, true, false, cond}
 use native.Mathlib.Nat.{le-refl}
 use native.Mathlib.Omega.{arith}
 use native.Mathlib.Numerals.{add-one}
 use lib.ListN.{length, getD, take, drop, length-drop}
-use lib.Seq.{length-take-le, take-at, take-add, drop-append-add, drop-drop, sets-eq}
+use lib.Seq.{length-take-le, take-at}
 use lib.Dec.{ltb, lit<}
-use borrow.Author.Tests.{le-ltb}
 use Rattle.hbc_bits.specs.Bits.{leAt}
 use Rattle.hbc_io.specs.Answer.{Answer, gives, asked}
 use Rattle.hbc_io.proofs.Exits.{words}
-use Rattle.hbc_rows.specs.Rows as rows
 use Rattle.hbc_rows.specs.Rows.{rowAt}
 use Rattle.hbc_function_record.specs.declared.Layout.{Layout}
 use Rattle.hbc_function_record.specs.declared.Record.{Record}
-use Rattle.hbc_function_record.specs.Record.{sizeOf, largeOf, inlineOf, largeAt}
-use Rattle.hbc_function_record.specs.Row.{width, rowWords}
-use Rattle.hbc_function_record.proofs.Rows.{words-length}
+use Rattle.hbc_function_record.specs.Record.{sizeOf, largeOf, inlineOf}
+use Rattle.hbc_function_record.specs.declared.Found.{Found}
+use Rattle.hbc_function_record.specs.Row.{width, recordWidth, inline, rowWords, foundAt}
 use Rattle.hbc_function_header.specs.declared.Reading.the-variants as reading
-use Rattle.hbc_function_header.specs.Header.{headerAt, functionAt}
-use Rattle.hbc_function.specs.Table.{step, scan, rowBy, putRows, all, readAnswer, ReadFunctions}
-use Rattle.hbc_function.proofs.Laws.{put-none, put-next, put-length, scanned}
+use Rattle.hbc_function_header.specs.Header.{headerAt, largeFound, functionAt}
+use Rattle.hbc_function.specs.Table.{step, scan, putRows, all, readAnswer}
+use Rattle.hbc_function.proofs.Laws.{put-length, scanned}
 use Rattle.hbc_function_bytes.specs.Bytes.{valuesIn, goesInline, pointerTo, rightRow}
 use Rattle.hbc_function_bytes.proofs.Sums.{infoOf}
 use Rattle.hbc_function_write.specs.Write.{rounded, freeAt, placeAt, endAt, tableEnd, headOf, rightEnd}
@@ -33,7 +31,8 @@ use Rattle.hbc_function_write.proofs.Places.{large-some, place-after, place-bef
 use Rattle.hbc_function_write.proofs.Turns.{headers-length}
 use Rattle.hbc_claims_law.specs.Terms.{Either, left, right, flagged, packedAt}
 use Rattle.hbc_claims_function.specs.Accepted.{Writable}
-use Rattle.hbc_claims_function.specs.Written.{Words, Written, ReadsBack, Headed, Kept, Placed}
+use Rattle.hbc_claims_function.specs.Written.{Words, Written, backAt, ReadsBack, SameRecords, Headed, Kept, Placed}
+use Rattle.hbc_claims_function.proofs.Words.{row-at, word-behind}
 use Rattle.hbc_claims_function.proofs.Accepted.{writable}
 use Rattle.hbc_claims_function.proofs.Packed as packs
 use Rattle.hbc_claims_function.proofs.Headers.{recordBy, inline-stands, large-stands, pointer-fits, pointer-place, pointer-flagged, inline-fits, inline-own, inline-info, large-info, row-back, row-layable}
@@ -84,11 +83,12 @@ module _ (s : List ℕ) (layout : Layout) (f : ℕ → List ℕ) (start large co
     not-flagged : flagged s layout at ≡ false
     not-flagged = rw (inline-head 0) (inline-own layout (f i) e 0 0)
 
-    inline-found : functionAt s layout start i ≡ gives own
+    inline-found : functionAt s layout start i ≡ gives (foundAt inline own)
     unfolding functionAt
     inline-found =
         packs.own s layout at i (head-in v i h) not-flagged
-        ∙ ap gives (inline-head i ∙ ap (λ (n : ℕ). recordBy layout i n (valuesIn layout (f i))) (inline-info layout (f i) e))
+        ∙ ap (λ (r : Record). gives (foundAt inline r))
+        (inline-head i ∙ ap (λ (n : ℕ). recordBy layout i n (valuesIn layout (f i))) (inline-info layout (f i) e))
 
   -- large: it says where the large one is
   module _ (e : goesInline layout (f i) ≡ false) where
@@ -105,27 +105,30 @@ module _ (s : List ℕ) (layout : Layout) (f : ℕ → List ℕ) (start large co
     is-packed : packedAt s layout at ≡ place
     is-packed = rw pointer-head (pointer-place place place-small layout 0 0)
 
-    large-found : Words (f i) → rightRow layout i (f i) ≡ true → rightEnd layout f large i ≡ true → functionAt s layout start i ≡ gives own
+    large-found : Words (f i) → rightRow layout i (f i) ≡ true → rightEnd layout f large i ≡ true
+        → functionAt s layout start i ≡ gives (foundAt place own)
     unfolding functionAt rightEnd
     large-found u r n =
         packs.large s layout at i (head-in v i h) is-flagged (rw is-packed (place-in v i h e))
-        ∙ ap (λ (p : ℕ). gives (largeAt s layout p i)) is-packed
-        ∙ ap gives (large-stands layout i (valuesIn layout (f i)) (w .far e) (row-layable layout i (f i) u r)
+        ∙ ap (λ (p : ℕ). gives (largeFound s layout p i)) is-packed
+        ∙ ap (λ (r : Record). gives (foundAt place r))
+        (large-stands layout i (valuesIn layout (f i)) (w .far e) (row-layable layout i (f i) u r)
         ∙ large-info layout i (f i) (valuesIn layout (f i)) (rounded (place + largeOf layout)) (rw e at n))
 
   found-by : (b : Bool) → goesInline layout (f i) ≡ b → Words (f i) → rightRow layout i (f i) ≡ true → rightEnd layout f large i ≡ true
-      → functionAt s layout start i ≡ gives own
+      → functionAt s layout start i ≡ gives (foundAt (cond b inline place) own)
   found-by true e u r n = inline-found e
   found-by false e u r n = large-found e u r n
 
   pub is-headed : Words (f i) → length (f i) ≡ width → rightRow layout i (f i) ≡ true → rightEnd layout f large i ≡ true → Headed s layout f start large i
+  unfolding rowWords
   is-headed u l r n =
       record {
         inline = not-flagged;
         large-one = λ e. (is-flagged e, is-packed e);
-        record-of = own;
+        read-as = foundAt (cond (goesInline layout (f i)) inline place) own;
         found = found-by (goesInline layout (f i)) refl u r n;
-        is = row-back layout i (f i) l r;
+        is = rw (row-back layout i (f i) l r);
       }
 
 -- ---- where what was written ends
@@ -164,38 +167,10 @@ aligned layout f large i = omega arith
 
 -- ---- functions that are all found
 
-row-over : (t : List ℕ) (n : ℕ) (row : List ℕ) → length row ≡ width → n * width + width ≤ length t
-    → rows.putRow width t n row ≡ take (n * width) t ++ row ++ drop (n * width + width) t
-unfolding rows.putRow
-row-over t n row l h = rw (le-ltb (length t) (n * width + width) h) (rw l at (sets-eq row t (n * width) (rw l h)))
-
-module _ (g : ℕ → Answer Record) (words : List ℕ) (count : ℕ) (lent : count * width ≤ length words)
-    (e : (i : ℕ) → i < count → (r : Record) × (g i ≡ gives r) × (rowWords r ≡ rowAt width words i)) where
-  scan-all : (n : ℕ) → n ≤ count → scan all g n ≡ gives n
-  unfolding scan step
-  scan-all zero h = refl
-  scan-all (suc n) h = rw (scan-all n (omega arith), e n h .1) (ap gives (add-one n))
-
-  -- their rows, one after another, are the words
-  put-all : (t : List ℕ) → count * width ≤ length t → (n : ℕ) → n ≤ count → putRows all g t n ≡ take (n * width) words ++ drop (n * width) t
-  unfolding rowAt
-  put-all t room zero h = put-none all g t
-  put-all t room (suc n) h =
-      let p = put-all t room n (omega arith) in
-      let x : List ℕ = take (n * width) words in
-      let r = e n h in
-      let l : length x ≡ n * width = length-take-le (n * width) words (omega arith) in
-      let k : length (x ++ drop (n * width) t) ≡ length t = sym (ap length p) ∙ put-length all g t n in
-      let d : drop (n * width + width) (x ++ drop (n * width) t) ≡ drop (n * width + width) t =
-      rw (drop-drop, l) at (drop-append-add x (drop (n * width) t) width) in
-      let q : suc n * width ≡ n * width + width = omega arith in
-      let o : rows.putRow width (x ++ drop (n * width) t) n (rowWords (r .0)) ≡ x ++ rowWords (r .0) ++ drop (n * width + width) t =
-      row-over (x ++ drop (n * width) t) n (rowWords (r .0)) (words-length (r .0)) (rw k (omega arith))
-      ∙ (λ j. take-at x (drop (n * width) t) (n * width) l j ++ rowWords (r .0) ++ d j) in
-      let m : rows.putRow width (putRows all g t n) n (rowWords (r .0)) ≡ rows.putRow width (x ++ drop (n * width) t) n (rowWords (r .0)) =
-      ap (λ (u : List ℕ). rows.putRow width u n (rowWords (r .0))) p in
-      put-next all g t n refl ∙ ap (λ (a : Answer Record). rows.putRow width (putRows all g t n) n (rowBy a)) (r .1) ∙ m ∙ o
-      ∙ rw (r .2, q, take-add (n * width) width words)
+scan-all : (g : ℕ → Answer Found) (n : ℕ) → ((i : ℕ) → i < n → (r : Found) × (g i ≡ gives r)) → scan all g n ≡ gives n
+unfolding scan step
+scan-all g zero e = refl
+scan-all g (suc n) e = rw (scan-all g n (λ i h. e i (omega arith)), e n (omega arith) .1) (ap gives (add-one n))
 
 -- ---- the write
 
@@ -242,34 +217,37 @@ module _ {rows : List ℕ} {layout : Layout} {start count large : ℕ} {b : List
 
   -- ---- read back
 
-  found-all : (i : ℕ) → i < count → (r : Record) × (functionAt b′ layout start i ≡ gives r) × (rowWords r ≡ rowAt width rows i)
-  found-all i h = let v = headed i h in (v .record-of, v .found, v .is)
-
   -- a read is accepted
   read-accepts : (n : ℕ) → count * width ≤ n → readAnswer b′ layout start count n ≡ gives tt
   read-accepts n h =
       sym (scanned b′ layout start count n (rw after-length (passed .short)) (rw after-length (passed .begins)) h)
-      ∙ ap asked (scan-all (functionAt b′ layout start) rows count (passed .holds) found-all count (le-refl count))
+      ∙ ap asked (scan-all (functionAt b′ layout start) count (λ i l. (headed i l .read-as, headed i l .found)))
 
-  pub reads-back : ReadsBack rows layout start count b′
+  back-row : (t : List ℕ) → count * width ≤ length t → (i : ℕ) → i < count → rowAt width (putRows all (functionAt b′ layout start) t count) i ≡ backAt layout f large i
+  back-row t h i l =
+      let v = headed i l in
+      row-at all (functionAt b′ layout start) t count i (v .read-as) h l refl (v .found) ∙ v .is
+
+  pub reads-back : ReadsBack rows layout start count large b′
   reads-back t t′ r h v =
       let a = read-accepts (length t) h in
-      let q : r ≡ reading.Read = one-reading r reading.Read (v .says ∙ a) in
-      (q, words v ∙ rw a (put-all (functionAt b′ layout start) rows count (passed .holds) found-all t h count (le-refl count)))
+      let g = functionAt b′ layout start in
+      let e : t′ ≡ putRows all g t count = words v ∙ rw a in (
+        one-reading r reading.Read (v .says ∙ a),
+        λ i l. ap (λ (u : List ℕ). rowAt width u i) e ∙ back-row t h i l,
+        rw e (record { rest = word-behind all g t count; long = put-length all g t count }),
+      )
 
-  -- what it leaves
-  a-read : (t : List ℕ) → count * width ≤ length t → ReadFunctions b′ layout start count t reading.Read (putRows all (functionAt b′ layout start) t count)
-  a-read t h = record { says = sym (read-accepts (length t) h); leaves = refl }
+-- the record's words of a row that is read back
+back-record : (layout : Layout) (f : ℕ → List ℕ) (large i : ℕ) → length (f i) ≡ width → take recordWidth (backAt layout f large i) ≡ take recordWidth (f i)
+back-record layout f large i l = take-at (take recordWidth (f i)) _ recordWidth (length-take-le recordWidth (f i) (omega arith))
 
--- two writes that leave the same buffer were of the same rows: both are what a read of it gives
+-- two writes that leave the same buffer were of the same records: both are what a read of it gives
 pub same-rows : {rows₁ rows₂ : List ℕ} {layout : Layout} {start count large₁ large₂ : ℕ} {b₁ b₂ : List ℕ} {e₁ e₂ : ℕ} {b′ : List ℕ}
-    → Written rows₁ layout start count large₁ b₁ e₁ b′ → Written rows₂ layout start count large₂ b₂ e₂ b′ → take (count * width) rows₁ ≡ take (count * width) rows₂
-same-rows {rows₁} {rows₂} {layout} {start} {count} {b′ = b′} v w =
-    let n : ℕ = count * width in
-    let h : n ≤ length rows₁ = passed v .holds in
-    let k : n ≤ length rows₂ = passed w .holds in
-    let t : List ℕ = putRows all (functionAt b′ layout start) rows₁ count in
-    let r = a-read v rows₁ h in
-    let p : take n (take n rows₁ ++ drop n rows₁) ≡ take n (take n rows₂ ++ drop n rows₁) =
-    ap (take n) (sym (reads-back v rows₁ t reading.Read h r .1) ∙ reads-back w rows₁ t reading.Read h r .1) in
-    sym (take-at (take n rows₁) (drop n rows₁) n (length-take-le n rows₁ h)) ∙ p ∙ take-at (take n rows₂) (drop n rows₁) n (length-take-le n rows₂ k)
+    → Written rows₁ layout start count large₁ b₁ e₁ b′ → Written rows₂ layout start count large₂ b₂ e₂ b′ → SameRecords rows₁ rows₂ count
+same-rows {rows₁} {rows₂} {layout} {start} {count} {large₁} {large₂} {b′ = b′} v w i l =
+    let h : count * width ≤ length rows₁ = passed v .holds in
+    let k : count * width ≤ length rows₂ = passed w .holds in
+    sym (back-record layout (rowAt width rows₁) large₁ i (row-length rows₁ i count l h))
+    ∙ ap (take recordWidth) (sym (back-row v rows₁ h i l) ∙ back-row w rows₁ h i l)
+    ∙ back-record layout (rowAt width rows₂) large₂ i (row-length rows₂ i count l k)

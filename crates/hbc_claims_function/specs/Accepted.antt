@@ -23,6 +23,7 @@ pub record Accepted (s : List ℕ) (layout : Layout) (start count words : ℕ) :
   pub scans : scan all (functionAt s layout start) count ≡ gives number
 
 pub record Refreshable (s : List ℕ) (layout : Layout) (start count low high words k : ℕ) : Type 0 where
+  pub short : length s ≤ limit
   pub holds : count * width ≤ words
   pub scans : scan (meets s layout start low high) (functionAt s layout start) count ≡ gives k
 

@@ -2,6 +2,7 @@ pub mod Agree
 pub mod Rows
 pub mod Accepted
 pub mod Tables
+pub mod Places
 pub mod Refreshed
 pub mod Packed
 pub mod BitLayout

@@ -1,12 +1,13 @@
--- docs/FORMAT.md, section 3.4: the words of a row that both layouts have, by their names.
+-- docs/FORMAT.md, section 3.4: the words of a row that both layouts have, by their names: the record's, and the place behind them.
 use Prim.Native.Nat.{ℕ}
 use mathlib.Core.Path.{_≡_}
 use mathlib.Core.List.{List}
-use lib.ListN.{getD}
+use lib.ListN.{length, getD, take}
 use Rattle.hbc_function_record.specs.declared.Layout.the-variants as lay
 use Rattle.hbc_function_record.specs.declared.Legacy.{Legacy}
 use Rattle.hbc_function_record.specs.declared.Modern.{Modern}
-use Rattle.hbc_function_record.specs.Row.{legacyWords, modernWords, numberIn}
+use Rattle.hbc_function_record.specs.declared.Found.{Found}
+use Rattle.hbc_function_record.specs.Row.{width, recordWidth, legacyWords, modernWords, recordWords, rowWords, numberIn, ROW_LARGE_PLACE}
 use Rattle.hbc_function_record.specs.Row.{ROW_LAYOUT, ROW_ID, ROW_OFFSET, ROW_PARAM_COUNT, ROW_SIZE, ROW_NAME, ROW_INFO_OFFSET, ROW_FRAME_SIZE, ROW_FLAGS}
 
 abbrev pub At : List ℕ → ℕ → ℕ → Type 0
@@ -33,3 +34,8 @@ pub record NamedModern (r : Modern) : Type 0 where
   pub «info_offset» : At (modernWords r) ROW_INFO_OFFSET (r .«info_offset»)
   pub «frame_size» : At (modernWords r) ROW_FRAME_SIZE (r .«frame_size»)
   pub flags : At (modernWords r) ROW_FLAGS (r .flags)
+
+pub record NamedRow (f : Found) : Type 0 where
+  pub long : length (rowWords f) ≡ width
+  pub first : take recordWidth (rowWords f) ≡ recordWords (f .own)
+  pub place : At (rowWords f) ROW_LARGE_PLACE (f .place)

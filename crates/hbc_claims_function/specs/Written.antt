@@ -1,14 +1,15 @@
 -- docs/FORMAT.md, section 3.9: what an accepted write leaves in the buffer, and what reading it gives. f i is row i, n the buffer's length, e the answer.
 use Prim.Native.Nat.{ℕ, _+_, _*_, _%_, _^_, _≤_, _<_}
 use mathlib.Core.Path.{_≡_}
-use mathlib.Core.List.{List, _++_}
-use mathlib.Core.Bool.{true, false}
-use lib.ListN.{length, getD, take, drop}
+use mathlib.Core.List.{List, [], _∷_, _++_}
+use mathlib.Core.Bool.{true, false, cond}
+use lib.ListN.{length, getD, take}
 use Rattle.hbc_io.specs.Answer.{gives}
 use Rattle.hbc_function_record.specs.declared.Layout.{Layout}
-use Rattle.hbc_function_record.specs.declared.Record.{Record}
+use Rattle.hbc_function_record.specs.declared.Found.{Found}
 use Rattle.hbc_function_record.specs.Record.{sizeOf, largeOf}
-use Rattle.hbc_function_record.specs.Row.{width, rowWords}
+use Rattle.hbc_function_record.specs.Row.{width, recordWidth, inline, rowWords}
+use Rattle.hbc_rows.specs.Rows.{rowAt}
 use Rattle.hbc_function_header.specs.declared.Reading.{Reading}
 use Rattle.hbc_function_header.specs.declared.Reading.the-variants as reading
 use Rattle.hbc_function_header.specs.Header.{headerAt, functionAt}
@@ -16,7 +17,7 @@ use Rattle.hbc_function.specs.Table.{ReadFunctions}
 use Rattle.hbc_function_bytes.specs.Bytes.{goesInline}
 use Rattle.hbc_function_write.specs.declared.Wrote.the-variants as wrote
 use Rattle.hbc_function_write.specs.Write.{rounded, placeAt, tableEnd, WriteFunctions}
-use Rattle.hbc_claims_law.specs.Terms.{Either, flagged, packedAt}
+use Rattle.hbc_claims_law.specs.Terms.{Either, Behind, flagged, packedAt}
 
 -- every word is a u32
 abbrev pub Words : List ℕ → Type 0
@@ -27,11 +28,19 @@ pub record Written (rows : List ℕ) (layout : Layout) (start count large : ℕ)
   pub words : Words rows
   pub write : WriteFunctions rows layout start count large before (wrote.To e) after
 
--- then: read into any table with room for the rows, s is accepted: the rows, and behind them every word as it was
-abbrev pub ReadsBack : List ℕ → Layout → ℕ → ℕ → List ℕ → Type 0
-ReadsBack rows layout start count s =
+-- row i as it is read back: the record's words of the row that was written, and the place where its large header was put, or 2^32 - 1 if it has none
+abbrev pub backAt : Layout → (ℕ → List ℕ) → ℕ → ℕ → List ℕ
+backAt layout f large i = take recordWidth (f i) ++ cond (goesInline layout (f i)) inline (placeAt layout f large i) ∷ []
+
+-- then: read into any table with room for the rows, s is accepted: those rows, and behind them every word as it was
+abbrev pub ReadsBack : List ℕ → Layout → ℕ → ℕ → ℕ → List ℕ → Type 0
+ReadsBack rows layout start count large s =
     (t t′ : List ℕ) (r : Reading) → count * width ≤ length t → ReadFunctions s layout start count t r t′
-    → (r ≡ reading.Read) × (t′ ≡ take (count * width) rows ++ drop (count * width) t)
+    → (r ≡ reading.Read) × ((i : ℕ) → i < count → rowAt width t′ i ≡ backAt layout (rowAt width rows) large i) × Behind (count * width) t t′
+
+-- rows below the count have the same words of their records, whatever their places
+abbrev pub SameRecords : List ℕ → List ℕ → ℕ → Type 0
+SameRecords rows₁ rows₂ count = (i : ℕ) → i < count → take recordWidth (rowAt width rows₁ i) ≡ take recordWidth (rowAt width rows₂ i)
 
 -- what stands in s for row i
 pub record Headed (s : List ℕ) (layout : Layout) (f : ℕ → List ℕ) (start large i : ℕ) : Type 0 where
@@ -39,10 +48,10 @@ pub record Headed (s : List ℕ) (layout : Layout) (f : ℕ → List ℕ) (start
   pub inline : goesInline layout (f i) ≡ true → flagged s layout (headerAt layout start i) ≡ false
   pub large-one : goesInline layout (f i) ≡ false
       → (flagged s layout (headerAt layout start i) ≡ true) × (packedAt s layout (headerAt layout start i) ≡ placeAt layout f large i)
-  -- the function is found, and its record's words are the row
-  pub record-of : Record
-  pub found : functionAt s layout start i ≡ gives record-of
-  pub is : rowWords record-of ≡ f i
+  -- the function is found, and its words are the row as it is read back
+  pub read-as : Found
+  pub found : functionAt s layout start i ≡ gives read-as
+  pub is : rowWords read-as ≡ backAt layout f large i
 
 -- byte j is of no header, inline or large
 pub record Free (layout : Layout) (f : ℕ → List ℕ) (start large count j : ℕ) : Type 0 where

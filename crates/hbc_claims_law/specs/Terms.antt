@@ -15,6 +15,7 @@ use Rattle.hbc_io.specs.declared.Refusal.{Refusal}
 use Rattle.hbc_io_leb.specs.Leb.{lebBytes}
 use Rattle.hbc_function_record.specs.declared.Layout.{Layout}
 use Rattle.hbc_function_record.specs.declared.Record.{Record}
+use Rattle.hbc_function_record.specs.declared.Found.{Found}
 use Rattle.hbc_function_record.specs.Record.{sizeOf, inlineOf, flagsOf, overflowed, placeOf}
 use Rattle.hbc_function_record.specs.Row.{rowWords}
 use Rattle.hbc_function_header.specs.Header.{functionAt}
@@ -104,11 +105,11 @@ pub record Shared (a n low high j : ℕ) : Type 0 where
   pub low-on : low ≤ j
   pub before-high : j < high
 
--- a word that is word c of the row of function i's record
+-- a word that is word c of the row of what function i is read as: its record's, or the place
 pub record RowWord (s : List ℕ) (layout : Layout) (start i c word : ℕ) : Type 0 where
-  pub record-of : Record
-  pub found : functionAt s layout start i ≡ gives record-of
-  pub is : word ≡ getD (rowWords record-of) c 0
+  pub read-as : Found
+  pub found : functionAt s layout start i ≡ gives read-as
+  pub is : word ≡ getD (rowWords read-as) c 0
 
 -- ---- literals
 

@@ -14,8 +14,9 @@ use Rattle.hbc_rows.specs.Rows.{entryAt, rowAt, rows, putRows}
 use Rattle.hbc_rows.proofs.RowsAt as at
 use Rattle.hbc_function_record.specs.declared.Record.{Record}
 use Rattle.hbc_function_record.specs.declared.Record.the-variants as rec
+use Rattle.hbc_function_record.specs.declared.Found.{Found}
 use Rattle.hbc_function_record.specs.Record.{flagsOf}
-use Rattle.hbc_function_record.specs.Row.{width, ROW_INFO_OFFSET, ROW_FLAGS, legacyWords, modernWords, rowWords}
+use Rattle.hbc_function_record.specs.Row.{width, ROW_INFO_OFFSET, ROW_FLAGS, legacyWords, modernWords, rowWords, foundAt}
 use Rattle.hbc_parsing_handlers.specs.declared.Table.{Table}
 use Rattle.hbc_parsing_handlers.specs.declared.Why.{Why}
 use Rattle.hbc_parsing_handlers.specs.declared.Why.the-variants as w
@@ -26,11 +27,15 @@ use Rattle.hbc_parsing_handlers.proofs.Laws.{good, row-length, row-short, handl
 use Rattle.hbc_claims_law.specs.Terms.{Behind, Whose}
 use Rattle.hbc_claims_parsing.specs.HandlerRows.{OfRecord, HeaderWords}
 
-pub of-record : (r : Record) {t : List ℕ} {i : ℕ} → entryAt t (i * width + ROW_INFO_OFFSET) ≡ getD (rowWords r) ROW_INFO_OFFSET 0
-    → entryAt t (i * width + ROW_FLAGS) ≡ getD (rowWords r) ROW_FLAGS 0 → OfRecord r t i
-unfolding legacyWords modernWords flagsOf
-of-record (rec.Legacy r) e f = record { info = e; flags = f }
-of-record (rec.Modern r) e f = record { info = e; flags = f }
+by-record : (r : Record) (place : ℕ) {t : List ℕ} {i : ℕ} → entryAt t (i * width + ROW_INFO_OFFSET) ≡ getD (rowWords (foundAt place r)) ROW_INFO_OFFSET 0
+    → entryAt t (i * width + ROW_FLAGS) ≡ getD (rowWords (foundAt place r)) ROW_FLAGS 0 → OfRecord r t i
+unfolding legacyWords modernWords rowWords flagsOf
+by-record (rec.Legacy r) place e f = record { info = e; flags = f }
+by-record (rec.Modern r) place e f = record { info = e; flags = f }
+
+pub of-record : (r : Found) {t : List ℕ} {i : ℕ} → entryAt t (i * width + ROW_INFO_OFFSET) ≡ getD (rowWords r) ROW_INFO_OFFSET 0
+    → entryAt t (i * width + ROW_FLAGS) ≡ getD (rowWords r) ROW_FLAGS 0 → OfRecord (r .own) t i
+of-record r e f = by-record (r .own) (r .place) e f
 
 pub header-words : HeaderWords
 unfolding entryAt

@@ -4,6 +4,7 @@ use mathlib.Core.Path.{_≡_}
 use mathlib.Core.List.{List}
 use Rattle.hbc_function_record.specs.declared.Record.{Record}
 use Rattle.hbc_function_record.specs.declared.Record.the-variants as rec
+use Rattle.hbc_function_record.specs.declared.Found.{Found}
 use Rattle.hbc_function_record.specs.Record.{flagsOf}
 use Rattle.hbc_function_record.specs.Row.{rowWords}
 use Rattle.hbc_parsing_handlers.specs.Why.{infoIn, flagsIn}
@@ -20,4 +21,4 @@ pub record OfRecord (r : Record) (t : List ℕ) (i : ℕ) : Type 0 where
 
 -- the words that are read are a header row's info_offset and flags
 abbrev pub HeaderWords : Type 0
-HeaderWords = (r : Record) → OfRecord r (rowWords r) 0
+HeaderWords = (r : Found) → OfRecord (r .own) (rowWords r) 0

@@ -20,7 +20,7 @@ use Rattle.hbc_rows.specs.Rows as rows
 use Rattle.hbc_rows.proofs.RowsAt.{rows-length}
 use Rattle.hbc_function_record.specs.declared.Layout.{Layout}
 use Rattle.hbc_function_record.specs.declared.Layout.the-variants as lay
-use Rattle.hbc_function_record.specs.declared.Record.{Record}
+use Rattle.hbc_function_record.specs.declared.Found.{Found}
 use Rattle.hbc_function_record.specs.Record.{sizeOf}
 use Rattle.hbc_function_record.specs.Row.{width, rowWords}
 use Rattle.hbc_function_record.proofs.Rows.{words-length}
@@ -34,15 +34,15 @@ use Rattle.hbc_function.specs.Refresh.{saysRefreshed, held, refreshAnswe
 
 -- ---- one function more
 
-counted-by : (n : ℕ) (a : Answer Record) → asked a ≡ gives tt → counted n a ≡ gives (n + 1)
+counted-by : (n : ℕ) (a : Answer Found) → asked a ≡ gives tt → counted n a ≡ gives (n + 1)
 counted-by n (gives r) e = refl
 counted-by n (refuses x) e = let z : _≡_ {A = ℕ} 0 1 = cc in absurd (omega arith)
 
-refused-by : (n : ℕ) (a : Answer Record) {x : Refusal} → asked a ≡ refuses x → counted n a ≡ refuses x
+refused-by : (n : ℕ) (a : Answer Found) {x : Refusal} → asked a ≡ refuses x → counted n a ≡ refuses x
 refused-by n (gives r) e = let z : _≡_ {A = ℕ} 0 1 = cc in absurd (omega arith)
 refused-by n (refuses y) {x} e = let q : y ≡ x = cc in rw q
 
-module _ {chosen : Bool} (n : ℕ) (a : Answer Record) where
+module _ {chosen : Bool} (n : ℕ) (a : Answer Found) where
   pub step-read : chosen ≡ true → gives tt ≡ asked a → gives (n + 1) ≡ step chosen (gives n) a
   unfolding step
   step-read e f = rw e (sym (counted-by n a (sym f)))
@@ -52,12 +52,12 @@ module _ {chosen : Bool} (n : ℕ) (a : Answer Record) where
   step-refused e f = rw e (sym (refused-by n a (sym f)))
 
 -- a refusal stays
-step-kept : (chosen : Bool) (a : Answer Record) (x : Refusal) → step chosen (refuses x) a ≡ refuses x
+step-kept : (chosen : Bool) (a : Answer Found) (x : Refusal) → step chosen (refuses x) a ≡ refuses x
 unfolding step
 step-kept false a x = refl
 step-kept true a x = refl
 
-module _ (chosen : ℕ → Bool) (f : ℕ → Answer Record) where
+module _ (chosen : ℕ → Bool) (f : ℕ → Answer Found) where
   pub scan-more : {x : Answer ℕ} (i n : ℕ) → scan chosen f i ≡ gives n → x ≡ step (chosen i) (gives n) (f i) → scan chosen f (i + 1) ≡ x
   unfolding scan
   scan-more i n e p = rw (p, add-one) (ap (λ (k : Answer ℕ). step (chosen i) k (f i)) e)
@@ -74,15 +74,15 @@ module _ (chosen : ℕ → Bool) (f : ℕ → Answer Record) where
 
 -- ---- one row more
 
-pub short-by : (a : Answer Record) → length (rowBy a) ≤ width
+pub short-by : (a : Answer Found) → length (rowBy a) ≤ width
 short-by (gives r) = rw (words-length r) (omega arith)
 short-by (refuses x) = omega arith
 
-short-if : (b : Bool) (a : Answer Record) → length (cond b (rowBy a) []) ≤ width
+short-if : (b : Bool) (a : Answer Found) → length (cond b (rowBy a) []) ≤ width
 short-if true a = short-by a
 short-if false a = omega arith
 
-pub short : (chosen : ℕ → Bool) (f : ℕ → Answer Record) (i : ℕ) → length (rowIf chosen f i) ≤ width
+pub short : (chosen : ℕ → Bool) (f : ℕ → Answer Found) (i : ℕ) → length (rowIf chosen f i) ≤ width
 short chosen f i = short-if (chosen i) (f i)
 
 -- no row puts nothing
@@ -95,7 +95,7 @@ put-nothing t k = by (ltb (length t) (k * width + width))
     by false = refl
 
 -- what the call for one row leaves of the table: the row of an answer, put into row i
-put-mid : (i : ℕ) (a : Answer Record) (t : List ℕ) {row : List ℕ} → i * width + width ≤ length t
+pub put-mid : (i : ℕ) (a : Answer Found) (t : List ℕ) {row : List ℕ} → i * width + width ≤ length t
     → row ≡ rowOf a (take (i * width + width - i * width) (drop (i * width) t))
     → putMid (i * width) (i * width + width - i * width) t row ≡ rows.putRow width t i (rowBy a)
 unfolding rows.putRow
@@ -117,7 +117,7 @@ row-put s layout start id i t h k l e =
     put-mid i (functionAt s layout start id) t l
     (row-is s layout start id (take (i * width + width - i * width) (drop (i * width) t)) h k (part-length i t l) e)
 
-module _ (chosen : ℕ → Bool) (f : ℕ → Answer Record) (t : List ℕ) where
+module _ (chosen : ℕ → Bool) (f : ℕ → Answer Found) (t : List ℕ) where
   pub put-none : putRows chosen f t 0 ≡ t
   unfolding putRows rows.putRows
   put-none = refl
@@ -138,10 +138,10 @@ module _ (chosen : ℕ → Bool) (f : ℕ → Answer Record) (t : List ℕ) wher
   put-length n = rows-length width (rowIf chosen f) (short chosen f) 0 t n
 
 -- t is t₀ with the chosen rows of functions 0 to i - 1
-pub record Put (chosen : ℕ → Bool) (f : ℕ → Answer Record) (i : ℕ) (t₀ t : List ℕ) : Type 0 where
+pub record Put (chosen : ℕ → Bool) (f : ℕ → Answer Found) (i : ℕ) (t₀ t : List ℕ) : Type 0 where
   pub is : t ≡ putRows chosen f t₀ i
 
-module _ {chosen : ℕ → Bool} {f : ℕ → Answer Record} {i : ℕ} {t₀ t : List ℕ} (v : Put chosen f i t₀ t) where
+module _ {chosen : ℕ → Bool} {f : ℕ → Answer Found} {i : ℕ} {t₀ t : List ℕ} (v : Put chosen f i t₀ t) where
   pub put-long : length t ≡ length t₀
   put-long = ap length (v .is) ∙ put-length chosen f t₀ i
 

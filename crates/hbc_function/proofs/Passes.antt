@@ -9,7 +9,7 @@ use lib.Dec.{ltb, leb}
 use borrow.Author.Tests.{ltb-true, ltb-false, le-leb, lt-leb}
 use Rattle.hbc_io.specs.declared.Refusal.{Refusal}
 use Rattle.hbc_rows.specs.Rows as rows
-use Rattle.hbc_function_record.specs.declared.Record.{Record}
+use Rattle.hbc_function_record.specs.declared.Found.{Found}
 use Rattle.hbc_function_record.specs.Row.{width}
 use Rattle.hbc_io.specs.Answer.{Answer, gives, refuses, asked}
 use Rattle.hbc_function.specs.Table.{counted, step, scan, rowBy, putRows, all}
@@ -41,7 +41,7 @@ module _ {chosen : ℕ → Bool} {from count : ℕ} where
   same : {A : Type 0} (g : ℕ → A) → ((k : ℕ) → chosen k ≡ false → g (suc k) ≡ g k) → {r : ℕ} → Skipped chosen from count r → g r ≡ g from
   same g f {r} v = le-ind (λ (m : ℕ). m ≤ r → g m ≡ g from) (λ h. refl) (λ m k p h. f m (v .none m k (omega arith)) ∙ p (omega arith)) r (v .after) (omega arith)
 
-module _ {chosen : ℕ → Bool} (f : ℕ → Answer Record) {from count r : ℕ} (v : Next chosen from count r) where
+module _ {chosen : ℕ → Bool} (f : ℕ → Answer Found) {from count r : ℕ} (v : Next chosen from count r) where
   pub scan-next : {k : ℕ} → scan chosen f from ≡ gives k → scan chosen f r ≡ gives k
   unfolding scan step
   scan-next e = same (scan chosen f) (λ k p. rw p) (v .skipped) ∙ e
@@ -51,7 +51,7 @@ module _ {chosen : ℕ → Bool} (f : ℕ → Answer Record) {from count r : ℕ
 
 -- ---- rows from one on
 
-module _ (f : ℕ → Answer Record) (t : List ℕ) (i : ℕ) where
+module _ (f : ℕ → Answer Found) (t : List ℕ) (i : ℕ) where
   pub put-from : Put (leb i) f i t t
   put-from =
       let v : Skipped (leb i) 0 i i = record { after = omega arith; within = omega arith; none = λ k p q. lt-leb i k q } in
@@ -60,7 +60,7 @@ module _ (f : ℕ → Answer Record) (t : List ℕ) (i : ℕ) where
   pub put-one : putRows (leb i) f t (i + 1) ≡ rows.putRow width t i (rowBy (f i))
   put-one = sym (put-more put-from (le-leb i i (omega arith)) refl .is)
 
-pub put-whole : (f : ℕ → Answer Record) (t : List ℕ) (n : ℕ) → putRows (leb 0) f t n ≡ putRows all f t n
+pub put-whole : (f : ℕ → Answer Found) (t : List ℕ) (n : ℕ) → putRows (leb 0) f t n ≡ putRows all f t n
 put-whole f t zero = put-none (leb 0) f t ∙ sym (put-none all f t)
 put-whole f t (suc n) =
     put-next (leb 0) f t n (le-leb 0 n (omega arith)) ∙ ap (λ (u : List ℕ). rows.putRow width u n (rowBy (f n))) (put-whole f t n) ∙ sym (put-next all f t n refl)
@@ -68,15 +68,15 @@ put-whole f t (suc n) =
 -- ---- once as many are counted as there are, no more rows are put
 
 -- what functions 0 to m - 1 count is at least n, and where it is n they put what functions 0 to i - 1 put
-record Rest (chosen : ℕ → Bool) (f : ℕ → Answer Record) (t : List ℕ) (i n m k : ℕ) : Type 0 where
+record Rest (chosen : ℕ → Bool) (f : ℕ → Answer Found) (t : List ℕ) (i n m k : ℕ) : Type 0 where
   more : n ≤ k
   same-put : k ≡ n → putRows chosen f t m ≡ putRows chosen f t i
 
 gives-same : {a b : ℕ} → gives a ≡ gives b → a ≡ b
 gives-same e = cc
 
-module _ (chosen : ℕ → Bool) (f : ℕ → Answer Record) (t : List ℕ) (i n : ℕ) where
-  rest-chosen : (m k j : ℕ) (a : Answer Record) → Rest chosen f t i n m j → counted j a ≡ gives k → Rest chosen f t i n (suc m) k
+module _ (chosen : ℕ → Bool) (f : ℕ → Answer Found) (t : List ℕ) (i n : ℕ) where
+  rest-chosen : (m k j : ℕ) (a : Answer Found) → Rest chosen f t i n m j → counted j a ≡ gives k → Rest chosen f t i n (suc m) k
   rest-chosen m k j (gives r) v e = let h : k ≡ j + 1 = cc in let l = v .more in record { more = omega arith; same-put = λ q. absurd (omega arith) }
   rest-chosen m k j (refuses x) v e = let z : _≡_ {A = ℕ} 0 1 = cc in absurd (omega arith)
 
@@ -99,13 +99,13 @@ module _ (chosen : ℕ → Bool) (f : ℕ → Answer Record) (t : List ℕ) (i n
 -- ---- the pass that counts
 
 -- n of functions 0 to i - 1 are chosen and can be read; i is chosen, unless it is count
-pub record Met (chosen : ℕ → Bool) (f : ℕ → Answer Record) (count i n : ℕ) : Type 0 where
+pub record Met (chosen : ℕ → Bool) (f : ℕ → Answer Found) (count i n : ℕ) : Type 0 where
   pub within : i ≤ count
   pub few : n ≤ i
   pub found : scan chosen f i ≡ gives n
   pub met : i < count → chosen i ≡ true
 
-module _ {chosen : ℕ → Bool} {f : ℕ → Answer Record} {count : ℕ} where
+module _ {chosen : ℕ → Bool} {f : ℕ → Answer Found} {count : ℕ} where
   pub met-first : {r : ℕ} → Next chosen 0 count r → Met chosen f count r 0
   unfolding scan
   met-first v = record { within = v .skipped .within; few = omega arith; found = scan-next f v refl; met = v .met }
@@ -125,7 +125,7 @@ module _ {chosen : ℕ → Bool} {f : ℕ → Answer Record} {count : ℕ} where
 -- ---- the pass that writes
 
 -- a chosen one is counted where no refusal is met
-got-by : (chosen : ℕ → Bool) (f : ℕ → Answer Record) (i count n k : ℕ) (a : Answer Record) → a ≡ f i → i < count → chosen i ≡ true → scan chosen f count ≡ gives n
+got-by : (chosen : ℕ → Bool) (f : ℕ → Answer Found) (i count n k : ℕ) (a : Answer Found) → a ≡ f i → i < count → chosen i ≡ true → scan chosen f count ≡ gives n
     → scan chosen f i ≡ gives k → scan chosen f (i + 1) ≡ gives (k + 1)
 got-by chosen f i count n k (gives r) p h c d e = scan-more chosen f i k e (step-read k (f i) c (ap asked p))
 got-by chosen f i count n k (refuses x) p h c d e =
@@ -133,13 +133,13 @@ got-by chosen f i count n k (refuses x) p h c d e =
     let z : _≡_ {A = ℕ} 0 1 = cc in absurd (omega arith)
 
 -- of the n chosen ones all but `left` are among functions 0 to i - 1, and t is t₀ with their rows
-pub record Patched (chosen : ℕ → Bool) (f : ℕ → Answer Record) (count n left i : ℕ) (t₀ t : List ℕ) : Type 0 where
+pub record Patched (chosen : ℕ → Bool) (f : ℕ → Answer Found) (count n left i : ℕ) (t₀ t : List ℕ) : Type 0 where
   pub within : i ≤ count
   pub fits : left ≤ n
   pub found : scan chosen f i ≡ gives (n - left)
   pub put : Put chosen f i t₀ t
 
-module _ {chosen : ℕ → Bool} {f : ℕ → Answer Record} {count n : ℕ} {t₀ : List ℕ} where
+module _ {chosen : ℕ → Bool} {f : ℕ → Answer Found} {count n : ℕ} {t₀ : List ℕ} where
   pub patch-first : {r : ℕ} → Next chosen 0 count r → Patched chosen f count n n r t₀ t₀
   unfolding scan
   patch-first v =

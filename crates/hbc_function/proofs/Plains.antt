@@ -1,24 +1,24 @@
 -- A function that is read from its own header alone: known so, and its row.
-use Prim.Native.Nat.{ℕ, _+_, _*_, _≤_, min, max}
+use Prim.Native.Nat.{ℕ, _+_, _*_, _-_, _≤_, min, max}
 use mathlib.Core.Path.{_≡_, refl, sym, ap, _∙_, subst}
 use mathlib.Core.List.{List}
-use mathlib.Core.Bool.{Bool, true, false, not}
+use mathlib.Core.Bool.{Bool, false, not}
 use native.Mathlib.Omega.{arith}
-use lib.ListN.{length}
+use lib.ListN.{length, take, drop}
 use borrow.Author.Tests.{not-true}
-use Rattle.hbc_io.specs.Answer.{Answer, gives}
+use borrow.Rule.Slice.PartMut.{putMid}
+use Rattle.hbc_io.specs.Answer.{gives}
 use Rattle.hbc_io.specs.Plain.{wordAt}
 use Rattle.hbc_rows.specs.Rows.{putRow}
 use Rattle.hbc_function_record.specs.declared.Layout.{Layout}
-use Rattle.hbc_function_record.specs.declared.Record.{Record}
 use Rattle.hbc_function_record.specs.Record.{sizeOf, inlineOf, flagsOf, overflowed}
-use Rattle.hbc_function_record.specs.Row.{width, rowWords}
-use Rattle.hbc_function_record.proofs.Rows.{words-length}
+use Rattle.hbc_function_record.specs.Row.{width, rowWords, inlineFound}
 use Rattle.hbc_function_header.specs.Header.{headerAt, functionAt}
-use Rattle.hbc_function_header.proofs.Headers.{plain-found, is-function}
+use Rattle.hbc_function_header.proofs.Headers.{plain-found, is-function, row-read}
 use Rattle.hbc_function_header.proofs.Meetings.{plain-apart}
 use Rattle.hbc_function.specs.Table.{rowBy}
 use Rattle.hbc_function.specs.Private.{Plain, Apart}
+use Rattle.hbc_function.proofs.Laws.{put-mid, part-length}
 
 module _ (s : List ℕ) (layout : Layout) (start i : ℕ) where
   pub not-known : Plain s layout start i false
@@ -34,14 +34,15 @@ module _ (s : List ℕ) (layout : Layout) (start i : ℕ) where
       (λ (n : ℕ). start + i * n + n ≤ length s → b ≡ overflowed (flagsOf (inlineOf layout 0 (wordAt (sizeOf layout) s (start + i * n)))) → Plain s layout start i (not b))
       (sym e) plain-here
 
-  pub row-by : {size : ℕ} {words : List ℕ} (t : List ℕ) {t′ : List ℕ} → size ≡ sizeOf layout → words ≡ rowWords (inlineOf layout i (wordAt (sizeOf layout) s (start + i * size)))
-      → gives (inlineOf layout i (wordAt (sizeOf layout) s (headerAt layout start i))) ≡ functionAt s layout start i → t′ ≡ putRow (length words) t i words
-      → t′ ≡ putRow width t i (rowBy (functionAt s layout start i))
-  row-by {size} {words} t e w g p =
-      let v : words ≡ rowWords (inlineOf layout i (wordAt (sizeOf layout) s (headerAt layout start i)))
-      = w ∙ ap (λ (n : ℕ). rowWords (inlineOf layout i (wordAt (sizeOf layout) s (start + i * n)))) e in
-      p ∙ ap (λ (n : ℕ). putRow n t i words) (ap length v ∙ words-length (inlineOf layout i (wordAt (sizeOf layout) s (headerAt layout start i))))
-      ∙ ap (putRow width t i) (v ∙ ap rowBy g)
+  pub row-by : {size : ℕ} {words row : List ℕ} (t : List ℕ) → i * width + width ≤ length t → size ≡ sizeOf layout
+      → words ≡ rowWords (inlineFound layout i (wordAt (sizeOf layout) s (start + i * size)))
+      → gives (inlineFound layout i (wordAt (sizeOf layout) s (headerAt layout start i))) ≡ functionAt s layout start i
+      → row ≡ putRow (length words) (take (i * width + width - i * width) (drop (i * width) t)) 0 words
+      → putMid (i * width) (i * width + width - i * width) t row ≡ putRow width t i (rowBy (functionAt s layout start i))
+  row-by {words = words} t h e w g p =
+      put-mid i (functionAt s layout start i) t h
+      (row-read (functionAt s layout start i) (take (i * width + width - i * width) (drop (i * width) t)) words (part-length i t h) g
+      (w ∙ ap (λ (n : ℕ). rowWords (inlineFound layout i (wordAt (sizeOf layout) s (start + i * n)))) e) p)
 
 module _ (s : List ℕ) (layout : Layout) (start low high i : ℕ) where
   pub not-apart : Apart s layout start low high i false

@@ -6,7 +6,8 @@ use mathlib.Core.List.{List}
 use Rattle.hbc_io.specs.Answer.{gives}
 use Rattle.hbc_io.specs.Plain.{wordAt}
 use Rattle.hbc_function_record.specs.declared.Layout.{Layout}
-use Rattle.hbc_function_record.specs.Record.{sizeOf, inlineOf}
+use Rattle.hbc_function_record.specs.Record.{sizeOf}
+use Rattle.hbc_function_record.specs.Row.{inlineFound}
 use Rattle.hbc_function_header.specs.Header.{headerAt, functionAt}
 use Rattle.hbc_function_header.specs.Meets.{meets}
 
@@ -23,7 +24,7 @@ pub record Next (chosen : ℕ → Bool) (from count r : ℕ) : Type 0 where
 
 -- a function that is known to be read from its own header alone
 abbrev pub Plain : List ℕ → Layout → ℕ → ℕ → Bool → Type 0
-Plain s layout start i r = r ≡ true → gives (inlineOf layout i (wordAt (sizeOf layout) s (headerAt layout start i))) ≡ functionAt s layout start i
+Plain s layout start i r = r ≡ true → gives (inlineFound layout i (wordAt (sizeOf layout) s (headerAt layout start i))) ≡ functionAt s layout start i
 
 -- one that is known not to meet a span
 abbrev pub Apart : List ℕ → Layout → ℕ → ℕ → ℕ → ℕ → Bool → Type 0

@@ -7,7 +7,7 @@ use Rattle.hbc_io.specs.Answer.{Answer, gives, refuses, refusedAt, asked, andTh
 use Rattle.hbc_io.specs.Lends.{below, Lends}
 use Rattle.hbc_rows.specs.Rows as rows
 use Rattle.hbc_function_record.specs.declared.Layout.{Layout}
-use Rattle.hbc_function_record.specs.declared.Record.{Record}
+use Rattle.hbc_function_record.specs.declared.Found.{Found}
 use Rattle.hbc_function_record.specs.Row.{width, rowWords}
 use Rattle.hbc_function_header.specs.declared.Reading.{Reading}
 use Rattle.hbc_function_header.specs.Header.{saysReading, functionAt, opened}
@@ -15,31 +15,31 @@ use Rattle.hbc_function_header.specs.Header.{saysReading, functionAt, opened}
 -- ---- functions 0, 1, 2, .. in turn; f i is what reading function i finds
 
 -- n functions so far, and one more
-abbrev pub counted : ℕ → Answer Record → Answer ℕ
-counted n (gives r) = gives (n + 1)
+abbrev pub counted : ℕ → Answer Found → Answer ℕ
+counted n (gives f) = gives (n + 1)
 counted n (refuses x) = refuses x
 
 -- what was found so far, and one function more, which is read only if it is chosen; the first refusal stays
-unfoldable pub step : Bool → Answer ℕ → Answer Record → Answer ℕ
+unfoldable pub step : Bool → Answer ℕ → Answer Found → Answer ℕ
 step false k a = k
 step true k a = andThen k (λ n. counted n a)
 
 -- functions 0 to n - 1, those that are chosen: how many they are, or the first refusal among them
-unfoldable pub scan : (ℕ → Bool) → (ℕ → Answer Record) → ℕ → Answer ℕ
+unfoldable pub scan : (ℕ → Bool) → (ℕ → Answer Found) → ℕ → Answer ℕ
 scan chosen f zero = gives 0
 scan chosen f (suc n) = step (chosen n) (scan chosen f n) (f n)
 
--- the row that a function puts: its record's words; a refusal puts none
-abbrev pub rowBy : Answer Record → List ℕ
-rowBy (gives r) = rowWords r
+-- the row that a function puts: the words of what is found; a refusal puts none
+abbrev pub rowBy : Answer Found → List ℕ
+rowBy (gives f) = rowWords f
 rowBy (refuses x) = []
 
 -- nor does a function that is not chosen
-abbrev pub rowIf : (ℕ → Bool) → (ℕ → Answer Record) → ℕ → List ℕ
+abbrev pub rowIf : (ℕ → Bool) → (ℕ → Answer Found) → ℕ → List ℕ
 rowIf chosen f i = cond (chosen i) (rowBy (f i)) []
 
 -- t with the rows of those of functions 0 to n - 1 that are chosen
-unfoldable pub putRows : (ℕ → Bool) → (ℕ → Answer Record) → List ℕ → ℕ → List ℕ
+unfoldable pub putRows : (ℕ → Bool) → (ℕ → Answer Found) → List ℕ → ℕ → List ℕ
 putRows chosen f t n = rows.putRows width (rowIf chosen f) 0 n t
 
 abbrev pub all : ℕ → Bool

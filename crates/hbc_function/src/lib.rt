@@ -102,7 +102,7 @@ fn write_row(s: &[u8], layout: Layout, start: usize, id: u32, table: &mut [u32])
     function_row(s, layout, start, id, &mut table[at..at + WIDTH]);
 }
 
-// The same, of one layout.
+// The same, of one layout. The row is lent as a part of the table, of which the compiler knows the length: nothing is tested.
 fn write_legacy_row(s: &[u8], start: usize, id: u32, table: &mut [u32])
     requires { ⌜ (start ≤ length (now s)) × (length (now s) ≤ limit) ⌝ }
     requires { ⌜ id * width + width ≤ length (now table) ⌝ }
@@ -111,7 +111,8 @@ fn write_legacy_row(s: &[u8], start: usize, id: u32, table: &mut [u32])
     if is_plain(s, Layout::Legacy16, start, id) {
         let at = start + (id as usize) * header_size(Layout::Legacy16);
         let words = legacy_row(s, at, id);
-        put_row(table, id as usize, &words);
+        let to = (id as usize) * WIDTH;
+        put_row(&mut table[to..to + WIDTH], 0, &words);
         return;
     }
     write_row(s, Layout::Legacy16, start, id, table);
@@ -125,7 +126,8 @@ fn write_modern_row(s: &[u8], start: usize, id: u32, table: &mut [u32])
     if is_plain(s, Layout::Modern12, start, id) {
         let at = start + (id as usize) * header_size(Layout::Modern12);
         let words = modern_row(s, at, id);
-        put_row(table, id as usize, &words);
+        let to = (id as usize) * WIDTH;
+        put_row(&mut table[to..to + WIDTH], 0, &words);
         return;
     }
     write_row(s, Layout::Modern12, start, id, table);

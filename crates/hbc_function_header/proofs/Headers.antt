@@ -1,12 +1,10 @@
 -- The cases of Header's definitions, each from plain facts on numbers.
 use Prim.Native.Nat.{ℕ, _+_, _*_, _^_, _≤_, _<_}
 use mathlib.Core.Path.{_≡_, refl, ap, sym, _∙_, subst}
-use mathlib.Core.List.{List, _++_, append-nil}
+use mathlib.Core.List.{List}
 use mathlib.Core.Bool.{Bool, true, false, cond}
 use native.Mathlib.Omega.{arith}
-use native.Mathlib.Nat.{zero-mul}
-use lib.ListN.{length, drop-of-length-le}
-use lib.Seq.{sets, sets-eq}
+use lib.ListN.{length}
 use lib.Dec.{ltb}
 use borrow.Author.Tests.{le-ltb, lt-ltb, ltb-false, eq-eqb, ne-eqb}
 use Rattle.hbc_io.specs.Outcome.{limit}
@@ -16,13 +14,14 @@ use Rattle.hbc_io.specs.Plain.{wordAt}
 use Rattle.hbc_io.proofs.Exits.{reached, words}
 use Rattle.hbc_io.proofs.Plains.{word-there}
 use Rattle.hbc_rows.specs.Rows.{putRow}
+use Rattle.hbc_rows.proofs.RowsAt.{row-whole}
 use Rattle.hbc_function_record.specs.declared.Layout.{Layout}
 use Rattle.hbc_function_record.specs.declared.Layout.the-variants as lay
-use Rattle.hbc_function_record.specs.declared.Record.{Record}
+use Rattle.hbc_function_record.specs.declared.Found.{Found}
 use Rattle.hbc_function_record.specs.declared.Link.{Link}
 use Rattle.hbc_function_record.specs.declared.Link.the-variants as link
 use Rattle.hbc_function_record.specs.Record.{sizeOf, largeOf, inlineOf, largeIn, flagsOf, overflowed, linkOf}
-use Rattle.hbc_function_record.specs.Row.{width, rowWords}
+use Rattle.hbc_function_record.specs.Row.{width, inline, rowWords, inlineFound}
 use Rattle.hbc_function_record.proofs.Records.{large-there}
 use Rattle.hbc_function_record.proofs.Rows.{words-length}
 use Rattle.hbc_function_header.specs.declared.Reading.{Reading}
@@ -110,19 +109,23 @@ module _ (s : List ℕ) (layout : Layout) (at : ℕ) where
 
   -- ---- what is found there
 
+  pub large-held : {w : Where} {place : ℕ} → w ≡ whereAt s layout at → w ≡ wh.Large place → place + largeOf layout ≤ length s
+  unfolding whereAt
+  large-held e f = where-there s (largeOf layout) (groundOf s layout at) (sym e ∙ f)
+
   module _ {w : Where} (e : w ≡ whereAt s layout at) (i : ℕ) where
     pub is-found : {v : Where} → w ≡ v → found s layout at i v ≡ recordAt s layout at i
     unfolding recordAt
     is-found f = ap (found s layout at i) (sym f ∙ e)
 
-    pub found-own : {r : Record} → w ≡ wh.Inline → r ≡ inlineOf layout i (wordAt (sizeOf layout) s at) → gives r ≡ recordAt s layout at i
+    pub found-own : {r : Found} → w ≡ wh.Inline → (r .own ≡ inlineOf layout i (wordAt (sizeOf layout) s at)) × (r .place ≡ inline) → gives r ≡ recordAt s layout at i
     found-own f p =
-        ap gives (p ∙ ap (inlineOf layout i) (word-there (sizeOf layout) s at (where-here (sym e ∙ f)))) ∙ is-found f
+        (λ j. gives (record { own = (p .0 ∙ ap (inlineOf layout i) (word-there (sizeOf layout) s at (where-here (sym e ∙ f)))) j; place = p .1 j })) ∙ is-found f
 
-    pub found-large : {r : Record} {place : ℕ} → length s ≤ limit → w ≡ wh.Large place → r ≡ largeIn s layout place i → gives r ≡ recordAt s layout at i
-    unfolding whereAt
+    pub found-large : {r : Found} {place : ℕ} → length s ≤ limit → w ≡ wh.Large place → (r .own ≡ largeIn s layout place i) × (r .place ≡ place)
+        → gives r ≡ recordAt s layout at i
     found-large {place = place} h f p =
-        ap gives (p ∙ sym (large-there s layout place i h (where-there s (largeOf layout) (groundOf s layout at) (sym e ∙ f)))) ∙ is-found f
+        (λ j. gives (record { own = (p .0 ∙ sym (large-there s layout place i h (large-held e f))) j; place = p .1 j })) ∙ is-found f
 
 -- a function whose header is in the file and not flagged is read from that alone
 module _ (s : List ℕ) (layout : Layout) (at : ℕ) (h : at + sizeOf layout ≤ length s)
@@ -131,9 +134,9 @@ module _ (s : List ℕ) (layout : Layout) (at : ℕ) (h : at + sizeOf layout ≤
   unfolding linkOf choose
   plain-ground = let l : link.Own ≡ linkOf (inlineOf layout 0 (wordAt (sizeOf layout) s at)) = sym (rw o) in ground-by s layout at h l refl
 
-  pub plain-found : (i : ℕ) → gives (inlineOf layout i (wordAt (sizeOf layout) s at)) ≡ recordAt s layout at i
+  pub plain-found : (i : ℕ) → gives (inlineFound layout i (wordAt (sizeOf layout) s at)) ≡ recordAt s layout at i
   unfolding whereOf
-  plain-found i = found-own s layout at (where-at s layout at plain-ground refl) i refl refl
+  plain-found i = found-own s layout at (where-at s layout at plain-ground refl) i refl (refl, refl)
 
 -- ---- the tests of a call, whatever it answers
 
@@ -207,26 +210,13 @@ module _ (s : List ℕ) (layout : Layout) (start i : ℕ) where
 
 -- ---- a lent row
 
-whole-by : (before words : List ℕ) (i : ℕ) → i ≡ 0 → length words ≡ length before → sets before i words ≡ words
-whole-by before words i z e =
-    let k : length before ≤ 0 + length words = omega arith in
-    rw z (sets-eq words before 0 (omega arith) ∙ ap (λ (u : List ℕ). words ++ u) (drop-of-length-le before k) ∙ append-nil words)
-
--- a row put over as many words is all of them
-row-whole : (before words : List ℕ) → length words ≡ length before → putRow (length words) before 0 words ≡ words
-unfolding putRow
-row-whole before words e =
-    let z : 0 * length words ≡ 0 = zero-mul (length words) in
-    let l : 0 * length words + length words ≤ length before = omega arith in
-    rw (le-ltb (length before) (0 * length words + length words) l) (whole-by before words (0 * length words) z e)
-
-pub row-read : {r : Record} (a : Answer Record) (before words : List ℕ) {row : List ℕ} → length before ≡ width → gives r ≡ a → words ≡ rowWords r
+pub row-read : {r : Found} (a : Answer Found) (before words : List ℕ) {row : List ℕ} → length before ≡ width → gives r ≡ a → words ≡ rowWords r
     → row ≡ putRow (length words) before 0 words → row ≡ rowOf a before
 row-read {r = r} a before words h e g p =
-    p ∙ row-whole before words (ap length g ∙ words-length r ∙ sym h) ∙ g ∙ ap (λ (o : Answer Record). rowOf o before) e
+    p ∙ row-whole before words (ap length g ∙ words-length r ∙ sym h) ∙ g ∙ ap (λ (o : Answer Found). rowOf o before) e
 
 -- what the call for one row leaves, by its answer: past its tests the row is the function's, or as it was where that is refused
-written-by : (a : Answer Record) (before : List ℕ) → written (asked a) (rowOf a before) before ≡ rowOf a before
+written-by : (a : Answer Found) (before : List ℕ) → written (asked a) (rowOf a before) before ≡ rowOf a before
 written-by (gives r) before = refl
 written-by (refuses x) before = refl
 
@@ -260,7 +250,7 @@ pub row-by : (s : List ℕ) (layout : Layout) (start i : ℕ) (before : List ℕ
     → at ≡ headerAt layout start i → RowBy (recordAt s layout at i) before r row → FunctionRow s layout start i before r row
 row-by s layout start i before {r = r} h k l e v = record {
   says = v .says ∙ ap asked (is-function s layout start i e) ∙ row-one s layout start i (length before) h k l;
-  leaves = v .leaves ∙ ap (λ (a : Answer Record). written (saysReading r) (rowOf a before) before) (is-function s layout start i e);
+  leaves = v .leaves ∙ ap (λ (a : Answer Found). written (saysReading r) (rowOf a before) before) (is-function s layout start i e);
 }
 
 -- a row is the one of its layout

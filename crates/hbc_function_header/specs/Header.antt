@@ -8,11 +8,11 @@ use Rattle.hbc_io.specs.Outcome.{limit}
 use Rattle.hbc_io.specs.Answer.{Answer, gives, refuses, refusedAt, asked}
 use Rattle.hbc_io.specs.Lends.{below, choose, Lends}
 use Rattle.hbc_function_record.specs.declared.Layout.{Layout}
-use Rattle.hbc_function_record.specs.declared.Record.{Record}
+use Rattle.hbc_function_record.specs.declared.Found.{Found}
 use Rattle.hbc_function_record.specs.declared.Link.{Link}
 use Rattle.hbc_function_record.specs.declared.Link.the-variants as link
 use Rattle.hbc_function_record.specs.Record.{sizeOf, largeOf, inlineOf, largeAt, linkOf}
-use Rattle.hbc_function_record.specs.Row.{width, rowWords}
+use Rattle.hbc_function_record.specs.Row.{width, rowWords, foundAt, inlineFound}
 use Rattle.hbc_function_header.specs.declared.Function.{Function}
 use Rattle.hbc_function_header.specs.declared.Function.the-variants as fun
 use Rattle.hbc_function_header.specs.declared.Reading.{Reading}
@@ -24,9 +24,9 @@ use Rattle.hbc_function_header.specs.declared.Grounded.the-variants as g
 use Rattle.hbc_function_header.specs.declared.Where.{Where}
 use Rattle.hbc_function_header.specs.declared.Where.the-variants as wh
 
--- what each case of an answer says: a record, legacy or modern, with the values of its fields
-abbrev pub saysFunction : Function → Answer Record
-saysFunction (fun.Read r) = gives r
+-- what each case of an answer says: a record, legacy or modern, with the values of its fields, and where it was read from
+abbrev pub saysFunction : Function → Answer Found
+saysFunction (fun.Read r place) = gives (foundAt place r)
 saysFunction (fun.Refused r) = refuses r
 
 abbrev pub saysReading : Reading → Answer (Unit {0})
@@ -70,17 +70,21 @@ whereAt s layout at = whereOf s (largeOf layout) (groundOf s layout at)
 
 -- ---- the record
 
+-- a large header at a place is found with that place
+abbrev pub largeFound : List ℕ → Layout → ℕ → ℕ → Found
+largeFound s layout place i = foundAt place (largeAt s layout place i)
+
 -- what is found there; a large header's flags are the record's, and are not followed
-abbrev pub found : List ℕ → Layout → ℕ → ℕ → Where → Answer Record
-found s layout at i wh.Inline = gives (inlineOf layout i (leAt s at (sizeOf layout)))
-found s layout at i (wh.Large place) = gives (largeAt s layout place i)
+abbrev pub found : List ℕ → Layout → ℕ → ℕ → Where → Answer Found
+found s layout at i wh.Inline = gives (inlineFound layout i (leAt s at (sizeOf layout)))
+found s layout at i (wh.Large place) = gives (largeFound s layout place i)
 found s layout at i (wh.Refused k) = refusedAt k i
 
-unfoldable pub recordAt : List ℕ → Layout → ℕ → ℕ → Answer Record
+unfoldable pub recordAt : List ℕ → Layout → ℕ → ℕ → Answer Found
 recordAt s layout at i = found s layout at i (whereAt s layout at)
 
--- function i of the table at start: its record, or 2 or 3 at i
-unfoldable pub functionAt : List ℕ → Layout → ℕ → ℕ → Answer Record
+-- function i of the table at start: its record and where that was, or 2 or 3 at i
+unfoldable pub functionAt : List ℕ → Layout → ℕ → ℕ → Answer Found
 functionAt s layout start i = recordAt s layout (headerAt layout start i) i
 
 -- 1 and 2, for the file and the start, come before all else
@@ -88,7 +92,7 @@ abbrev pub opened : {A : Type 0} → List ℕ → ℕ → Answer A → Answer A
 opened s start a = below limit (length s) (refusedAt 1 0) (below (length s) start (refusedAt 2 0) a)
 
 -- the answer for one function
-unfoldable pub readFunction : List ℕ → Layout → ℕ → ℕ → Answer Record
+unfoldable pub readFunction : List ℕ → Layout → ℕ → ℕ → Answer Found
 readFunction s layout start i = opened s start (functionAt s layout start i)
 
 -- 3 at i where its own header is not wholly in the file; else what follows
@@ -101,9 +105,9 @@ functionGround s layout start i = opened s start (headed s layout start i (gives
 
 -- ---- a lent row
 
--- the record's words, or as it was where there is none
-abbrev pub rowOf : Answer Record → List ℕ → List ℕ
-rowOf (gives r) before = rowWords r
+-- the words of what is found, or as it was where that is nothing
+abbrev pub rowOf : Answer Found → List ℕ → List ℕ
+rowOf (gives f) before = rowWords f
 rowOf (refuses x) before = before
 
 -- 1, 2, then 4 where the words lent are not one row, then the function

@@ -1,10 +1,12 @@
-// What a function is read from, by the place of its header, and what is made of it: the record, its row, or only whether it can be read.
+// What a function is read from, by the place of its header, and what is made of it: what is found, its row, or only whether it can be read.
 ghost use mathlib.Core.Path.{_≡_};
-ghost use Prim.Native.Nat.{_^_, _≤_, _<_};
+ghost use Prim.Native.Nat.{_+_, _^_, _≤_, _<_};
 ghost use lib.ListN.{length};
 ghost use Rattle.hbc_io.specs.Answer.{asked};
 ghost use Rattle.hbc_io.specs.Outcome.{limit};
-ghost use Rattle.hbc_function_record.specs.Row.{width};
+ghost use Rattle.hbc_io.specs.Plain.{wordAt};
+ghost use Rattle.hbc_function_record.specs.Record.{sizeOf, largeOf, inlineOf, largeIn};
+ghost use Rattle.hbc_function_record.specs.Row.{width, inline};
 ghost use Rattle.hbc_function_record.specs.declared.Layout.the-variants.{Legacy16, Modern12};
 ghost use Rattle.hbc_function_header.specs.Header.{saysFunction, saysReading, groundOf, whereOf, whereAt, recordAt};
 ghost use Rattle.hbc_function_header.specs.Private.{RowBy};
@@ -12,6 +14,8 @@ use crate::Function;
 use crate::Ground;
 use crate::Reading;
 use crate::Where;
+use hbc_function_record::Found;
+use hbc_function_record::INLINE;
 use hbc_function_record::Layout;
 use hbc_function_record::Link;
 use hbc_function_record::header_link;
@@ -62,13 +66,34 @@ fn where_at(s: &[u8], layout: Layout, at: usize) -> Where
     where_of(s, ground_of(s, layout, at), large_size(layout))
 }
 
+// What is found in the inline header at `at`.
+fn own(s: &[u8], layout: Layout, at: usize, id: u32) -> Found
+    ensures { λ f. ⌜ (f .own ≡ inlineOf layout id (wordAt (sizeOf layout) (now (s .entry)) at)) × (f .place ≡ inline) ⌝ }
+{
+    Found {
+        own: inline_record(s, layout, at, id),
+        place: INLINE,
+    }
+}
+
+// And in a large one that is there.
+fn large(s: &[u8], layout: Layout, place: usize, id: u32) -> Found
+    requires { ⌜ (place + largeOf layout ≤ length (now s)) × (length (now s) ≤ limit) ⌝ }
+    ensures { λ f. ⌜ (f .own ≡ largeIn (now (s .entry)) layout place id) × (f .place ≡ place) ⌝ }
+{
+    Found {
+        own: large_record(s, layout, place, id),
+        place: place as u32,
+    }
+}
+
 pub(crate) fn read(s: &[u8], layout: Layout, at: usize, id: u32) -> Function
     requires { ⌜ (at < 2 ^ 63) × (length (now s) ≤ limit) ⌝ }
     ensures { λ f. ⌜ saysFunction f ≡ recordAt (now (s .entry)) layout at id ⌝ }
 {
     match where_at(s, layout, at) {
-        Where::Inline => Function::Read(inline_record(s, layout, at, id)),
-        Where::Large(place) => Function::Read(large_record(s, layout, place, id)),
+        Where::Inline => Function::Read(inline_record(s, layout, at, id), INLINE),
+        Where::Large(place) => Function::Read(large_record(s, layout, place, id), place as u32),
         Where::Refused(number) => Function::Refused(refuse(number, id)),
     }
 }
@@ -92,12 +117,12 @@ fn legacy_row(s: &[u8], at: usize, id: u32, row: &mut [u32]) -> Reading
 {
     match where_at(s, Layout::Legacy16, at) {
         Where::Inline => {
-            let words = row_words(inline_record(s, Layout::Legacy16, at, id));
+            let words = row_words(own(s, Layout::Legacy16, at, id));
             put_row(row, 0, &words);
             Reading::Read
         }
         Where::Large(place) => {
-            let words = row_words(large_record(s, Layout::Legacy16, place, id));
+            let words = row_words(large(s, Layout::Legacy16, place, id));
             put_row(row, 0, &words);
             Reading::Read
         }
@@ -112,12 +137,12 @@ fn modern_row(s: &[u8], at: usize, id: u32, row: &mut [u32]) -> Reading
 {
     match where_at(s, Layout::Modern12, at) {
         Where::Inline => {
-            let words = row_words(inline_record(s, Layout::Modern12, at, id));
+            let words = row_words(own(s, Layout::Modern12, at, id));
             put_row(row, 0, &words);
             Reading::Read
         }
         Where::Large(place) => {
-            let words = row_words(large_record(s, Layout::Modern12, place, id));
+            let words = row_words(large(s, Layout::Modern12, place, id));
             put_row(row, 0, &words);
             Reading::Read
         }

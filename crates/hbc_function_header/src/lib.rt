@@ -16,9 +16,9 @@ use hbc_io::LIMIT;
 use hbc_io::Refusal;
 use hbc_io::refuse;
 
-// The answer for one function.
+// The answer for one function: its record, and the place of the large header that it was read from, INLINE where that was its own.
 pub enum Function {
-    Read(Record),
+    Read(Record, u32),
     Refused(Refusal),
 }
 

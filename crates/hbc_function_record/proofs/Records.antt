@@ -22,7 +22,7 @@ use Rattle.hbc_function_record.specs.declared.Link.{Link}
 use Rattle.hbc_function_record.specs.declared.Link.the-variants as link
 use Rattle.hbc_function_record.specs.Record.{sizeOf, largeOf, legacyOf, modernOf, legacyLarge, modernLarge, inlineOf, largeAt, largeIn, flagsOf, overflowed, legacyPlace, modernPlace, placeOf, linkOf, legacyBy, modernBy}
 use Rattle.hbc_function_record.specs.declared.Record.{Record}
-use Rattle.hbc_function_record.specs.Row.{legacyWords, modernWords, rowWords}
+use Rattle.hbc_function_record.specs.Row.{inline, rowWords, foundAt, inlineFound}
 use Rattle.hbc_function_record.specs.Private.{isThere}
 
 -- two words of a header as one number
@@ -146,13 +146,15 @@ module _ (s : List ℕ) (layout : Layout) (at : ℕ) where
 
 -- ---- the row of an inline header
 
-pub legacy-row-is : {w : List ℕ} {q : Legacy} (i : ℕ) {n m : ℕ} → w ≡ legacyWords q → q ≡ legacyOf i n → n ≡ m → w ≡ rowWords (inlineOf lay.Legacy16 i m)
-unfolding inlineOf rowWords
-legacy-row-is i d e f = d ∙ ap legacyWords (e ∙ ap (legacyOf i) f)
+pub legacy-row-is : {w : List ℕ} {q : Legacy} (i : ℕ) {n m : ℕ} → w ≡ rowWords (foundAt inline (rec.Legacy q)) → q ≡ legacyOf i n → n ≡ m
+    → w ≡ rowWords (inlineFound lay.Legacy16 i m)
+unfolding inlineOf
+legacy-row-is i d e f = d ∙ ap (λ (r : Legacy). rowWords (foundAt inline (rec.Legacy r))) (e ∙ ap (legacyOf i) f)
 
-pub modern-row-is : {w : List ℕ} {q : Modern} (i : ℕ) {n m : ℕ} → w ≡ modernWords q → q ≡ modernOf i n → n ≡ m → w ≡ rowWords (inlineOf lay.Modern12 i m)
-unfolding inlineOf rowWords
-modern-row-is i d e f = d ∙ ap modernWords (e ∙ ap (modernOf i) f)
+pub modern-row-is : {w : List ℕ} {q : Modern} (i : ℕ) {n m : ℕ} → w ≡ rowWords (foundAt inline (rec.Modern q)) → q ≡ modernOf i n → n ≡ m
+    → w ≡ rowWords (inlineFound lay.Modern12 i m)
+unfolding inlineOf
+modern-row-is i d e f = d ∙ ap (λ (r : Modern). rowWords (foundAt inline (rec.Modern r))) (e ∙ ap (modernOf i) f)
 
 -- a header of zeros is not flagged
 link-zeros : (layout : Layout) → link.Own ≡ linkOf (inlineOf layout 0 0)

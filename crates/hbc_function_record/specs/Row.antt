@@ -1,16 +1,21 @@
--- docs/FORMAT.md, section 3.4: a record as the words of its row.
+-- docs/FORMAT.md, section 3.4: a record, and the place of its large header, as the words of a row.
 use Prim.Native.Nat.{ℕ}
-use mathlib.Core.List.{List, [], _∷_}
+use mathlib.Core.List.{List, [], _∷_, _++_}
 use Rattle.hbc_function_record.specs.declared.Layout.{Layout}
 use Rattle.hbc_function_record.specs.declared.Layout.the-variants as lay
 use Rattle.hbc_function_record.specs.declared.Legacy.{Legacy}
 use Rattle.hbc_function_record.specs.declared.Modern.{Modern}
 use Rattle.hbc_function_record.specs.declared.Record.{Record}
 use Rattle.hbc_function_record.specs.declared.Record.the-variants as rec
+use Rattle.hbc_function_record.specs.declared.Found.{Found}
+use Rattle.hbc_function_record.specs.Record.{inlineOf}
 
--- the words of a row
+-- the words of a row, and those of them that are its record's, which come first
 abbrev pub width : ℕ
-width = 16
+width = 17
+
+abbrev pub recordWidth : ℕ
+recordWidth = 16
 
 -- those that both layouts have, by their place in it
 abbrev pub ROW_LAYOUT : ℕ
@@ -72,6 +77,14 @@ ROW_NEW_OBJECT = 14
 abbrev pub ROW_PRIVATE_NAME : ℕ
 ROW_PRIVATE_NAME = 15
 
+-- behind the record, in both: the place of the large header that it was read from
+abbrev pub ROW_LARGE_PLACE : ℕ
+ROW_LARGE_PLACE = 16
+
+-- or 2^32 - 1 where it was read from the inline one; a place of a file that is read is below 2^30
+abbrev pub inline : ℕ
+inline = 4294967295
+
 -- a layout's number
 abbrev pub numberIn : Layout → ℕ
 numberIn lay.Legacy16 = 0
@@ -89,6 +102,18 @@ modernWords r =
     numberIn lay.Modern12 ∷ r .id ∷ r .offset ∷ r .«param_count» ∷ r .size ∷ r .name ∷ r .«info_offset» ∷ r .«frame_size» ∷ r .flags
     ∷ r .«loop_depth» ∷ r .«number_reg» ∷ r .«non_ptr_reg» ∷ r .«read_cache» ∷ r .«write_cache» ∷ r .«new_object» ∷ r .«private_name» ∷ []
 
-abbrev pub rowWords : Record → List ℕ
-rowWords (rec.Legacy r) = legacyWords r
-rowWords (rec.Modern r) = modernWords r
+abbrev pub recordWords : Record → List ℕ
+recordWords (rec.Legacy r) = legacyWords r
+recordWords (rec.Modern r) = modernWords r
+
+-- the row: the record's words, then the place
+unfoldable pub rowWords : Found → List ℕ
+rowWords f = recordWords (f .own) ++ f .place ∷ []
+
+-- a record that is found at a place, or `inline`
+abbrev pub foundAt : ℕ → Record → Found
+foundAt place r = record { own = r; place = place }
+
+-- what is found in the inline header of function i, by the number of its bytes
+abbrev pub inlineFound : Layout → ℕ → ℕ → Found
+inlineFound layout i n = foundAt inline (inlineOf layout i n)

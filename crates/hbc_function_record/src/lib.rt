@@ -1,10 +1,10 @@
-// The format of a function's header: its two layouts, inline and large, where a large one is, and the words of a record's row.
+// The format of a function's header: its two layouts, inline and large, where a large one is, and the words of a function's row.
 // Every call is total: a header whose bytes are not all there is read as one of zeros.
 ghost use mathlib.Core.Path.{_≡_};
 ghost use Rattle.hbc_io.specs.Plain.{wordAt};
 ghost use Rattle.hbc_function_record.specs.Record.{sizeOf, largeOf, inlineOf, largeIn, flagsOf, overflowed, linkOf};
 ghost use Rattle.hbc_function_record.specs.declared.Layout.the-variants.{Legacy16, Modern12};
-ghost use Rattle.hbc_function_record.specs.Row.{rowWords};
+ghost use Rattle.hbc_function_record.specs.Row.{inlineFound, rowWords};
 ghost use Rattle.hbc_function_record.specs.Private.{isThere};
 use crate::fields::legacy_flagged;
 use crate::fields::legacy_here;
@@ -67,6 +67,12 @@ pub enum Record {
     Modern(Modern),
 }
 
+// What reading a function finds: its record, and the place of the large header that it was read from, INLINE where that was its own.
+pub struct Found {
+    pub own: Record,
+    pub place: u32,
+}
+
 // What a header is flagged for: nothing but itself, or a large one at a place.
 pub enum Link {
     Own,
@@ -78,8 +84,12 @@ mod fields;
 mod row;
 mod words;
 
-// The words of a row, and those that both layouts have in the same place.
-pub const WIDTH: usize = 16;
+// The words of a row, and those of them that are its record's, which come first.
+pub const WIDTH: usize = 17;
+
+pub const RECORD_WIDTH: usize = 16;
+
+// Those that both layouts have in the same place.
 
 pub const ROW_LAYOUT: usize = 0;
 
@@ -120,6 +130,9 @@ pub const ROW_WRITE_CACHE: usize = 13;
 pub const ROW_NEW_OBJECT: usize = 14;
 
 pub const ROW_PRIVATE_NAME: usize = 15;
+
+// Behind the record stands the place of its large header, or this where there is none: no place of a file that is read, which is below 2^30.
+pub const INLINE: u32 = 0xFFFF_FFFF;
 
 // How many bytes an inline header has.
 pub fn header_size(layout: Layout) -> usize
@@ -219,36 +232,37 @@ pub fn is_flagged(s: &[u8], layout: Layout, at: usize) -> bool
     }
 }
 
-// The row of the inline header at `at`, of zeros but for layout and id where its bytes are not all there: one call for each layout, with
-// nothing of the other in it, for the loops over a table.
+// The row of the inline header at `at`, its record of zeros but for layout and id where its bytes are not all there: one call for each layout,
+// with nothing of the other in it, for the loops over a table.
 pub fn legacy_row(s: &[u8], at: usize, id: u32) -> [u32; WIDTH]
-    ensures { λ w. ⌜ w ≡ rowWords (inlineOf Legacy16 id (wordAt (sizeOf Legacy16) (now (s .entry)) at)) ⌝ }
+    ensures { λ w. ⌜ w ≡ rowWords (inlineFound Legacy16 id (wordAt (sizeOf Legacy16) (now (s .entry)) at)) ⌝ }
 {
     if !there(s, at, header_size(Layout::Legacy16)) {
-        return legacy_words(legacy_inline(0, 0, id));
+        return legacy_words(legacy_inline(0, 0, id), INLINE);
     }
     let lo = u64_here(s, at);
     let hi = u64_here(s, at + 8);
-    legacy_words(legacy_inline(lo, hi, id))
+    legacy_words(legacy_inline(lo, hi, id), INLINE)
 }
 
 pub fn modern_row(s: &[u8], at: usize, id: u32) -> [u32; WIDTH]
-    ensures { λ w. ⌜ w ≡ rowWords (inlineOf Modern12 id (wordAt (sizeOf Modern12) (now (s .entry)) at)) ⌝ }
+    ensures { λ w. ⌜ w ≡ rowWords (inlineFound Modern12 id (wordAt (sizeOf Modern12) (now (s .entry)) at)) ⌝ }
 {
     if !there(s, at, header_size(Layout::Modern12)) {
-        return modern_words(modern_inline(0, 0, id));
+        return modern_words(modern_inline(0, 0, id), INLINE);
     }
     let lo = u64_here(s, at);
     let hi = word_here(s, at + 8) as u64;
-    modern_words(modern_inline(lo, hi, id))
+    modern_words(modern_inline(lo, hi, id), INLINE)
 }
 
-// The words of a record's row: those above, then what only its layout has.
-pub fn row_words(r: Record) -> [u32; WIDTH]
-    ensures { λ w. ⌜ w ≡ rowWords r ⌝ }
+// The words of a row: the record's, those above and then what only its layout has, and the place.
+pub fn row_words(f: Found) -> [u32; WIDTH]
+    ensures { λ w. ⌜ w ≡ rowWords f ⌝ }
 {
-    match r {
-        Record::Legacy(l) => legacy_words(l),
-        Record::Modern(m) => modern_words(m),
+    let own = f.own;
+    match own {
+        Record::Legacy(l) => legacy_words(l, f.place),
+        Record::Modern(m) => modern_words(m, f.place),
     }
 }

@@ -1,12 +1,13 @@
-// The words of a row, by layout.
+// The words of a row, by layout: the record's, then the place of its large header.
 ghost use mathlib.Core.Path.{_≡_};
-ghost use Rattle.hbc_function_record.specs.Row.{legacyWords, modernWords};
+ghost use Rattle.hbc_function_record.specs.declared.Record.the-variants as rec;
+ghost use Rattle.hbc_function_record.specs.Row.{foundAt, rowWords};
 use crate::Legacy;
 use crate::Modern;
 use crate::WIDTH;
 
-pub(crate) fn legacy_words(r: Legacy) -> [u32; WIDTH]
-    ensures { λ w. ⌜ w ≡ legacyWords r ⌝ }
+pub(crate) fn legacy_words(r: Legacy, place: u32) -> [u32; WIDTH]
+    ensures { λ w. ⌜ w ≡ rowWords (foundAt place (rec.Legacy r)) ⌝ }
 {
     [
         0,
@@ -25,11 +26,12 @@ pub(crate) fn legacy_words(r: Legacy) -> [u32; WIDTH]
         0,
         0,
         0,
+        place,
     ]
 }
 
-pub(crate) fn modern_words(r: Modern) -> [u32; WIDTH]
-    ensures { λ w. ⌜ w ≡ modernWords r ⌝ }
+pub(crate) fn modern_words(r: Modern, place: u32) -> [u32; WIDTH]
+    ensures { λ w. ⌜ w ≡ rowWords (foundAt place (rec.Modern r)) ⌝ }
 {
     [
         1,
@@ -48,5 +50,6 @@ pub(crate) fn modern_words(r: Modern) -> [u32; WIDTH]
         r.write_cache,
         r.new_object,
         r.private_name,
+        place,
     ]
 }

@@ -1,4 +1,4 @@
--- Bits that are clear in every word of a row: what does not fit, and what should be 0, all at once.
+-- Bits that are clear in every word of a row's record: what does not fit, and what should be 0, all at once.
 use Prim.Native.Nat.{ℕ, zero, suc, _+_, _*_, _-_, _/_, _%_, _^_, _≤_, _<_}
 use mathlib.Core.Path.{_≡_, refl, sym, ap, _∙_}
 use mathlib.Core.List.{List, [], _∷_}
@@ -16,7 +16,7 @@ use Rattle.hbc_bits.proofs.Fields.{both}
 use Rattle.hbc_rows.specs.Rows.{rowAt}
 use Rattle.hbc_function_record.specs.declared.Layout.{Layout}
 use Rattle.hbc_function_record.specs.declared.Layout.the-variants as lay
-use Rattle.hbc_function_record.specs.Row.{width, numberIn}
+use Rattle.hbc_function_record.specs.Row.{width, recordWidth, numberIn}
 use Rattle.hbc_function_bytes.specs.Bytes.{goesInline, rightRow}
 use Rattle.hbc_function_bytes.proofs.Sums.{same-test, inTheWay, none-in-the-way, legacy-way, modern-way, amiss, none-amiss, wrong-layout, wrong-id, legacy-amiss, modern-amiss}
 use Rattle.hbc_function_write.specs.Private.{paired, halves, clear, Plain}
@@ -85,7 +85,7 @@ cond-cond false b c = refl
 
 -- what is or-ed of pairs 0 to k - 1 is 0 exactly when their words are clear
 pub record Clearing (w masks : List ℕ) (k set : ℕ) : Type 0 where
-  pub within : k ≤ 8
+  pub within : k * 2 ≤ recordWidth
   pub tests : eqb set 0 ≡ clear (halves masks) w (k * 2)
 
 pub clearing-first : (w masks : List ℕ) → Clearing w masks 0 0
@@ -99,7 +99,7 @@ clear-two : (w masks : List ℕ) (k : ℕ)
 unfolding clear
 clear-two w masks k = rw (twice k, low-half masks k, high-half masks k)
 
-pub clearing-more : (rows : List ℕ) (i : ℕ) {masks : List ℕ} {k set p : ℕ} → ((j : ℕ) → getD rows j 0 < 2 ^ 32) → Clearing (rowAt width rows i) masks k set → k < 8
+pub clearing-more : (rows : List ℕ) (i : ℕ) {masks : List ℕ} {k set p : ℕ} → ((j : ℕ) → getD rows j 0 < 2 ^ 32) → Clearing (rowAt width rows i) masks k set → k * 2 < recordWidth
     → p ≡ paired rows (i * width + k * 2) → Clearing (rowAt width rows i) masks (k + 1) (bitOr set (bitAnd p (getD masks k 0)))
 unfolding paired
 clearing-more rows i {masks} {k} {set} {p} u v h e =
@@ -120,8 +120,8 @@ clearing-more rows i {masks} {k} {set} {p} u v h e =
           ∙ sym (rw (add-one k) (clear-two (rowAt width rows i) masks k)));
     }
 
-pub clearing-done : {w masks : List ℕ} {k set : ℕ} → Clearing w masks k set → 8 ≤ k → eqb set 0 ≡ clear (halves masks) w width
-clearing-done {w} {masks} {k} v h = let l = v .within in let e : k * 2 ≡ width = omega arith in v .tests ∙ ap (clear (halves masks) w) e
+pub clearing-done : {w masks : List ℕ} {k set : ℕ} → Clearing w masks k set → recordWidth ≤ k * 2 → eqb set 0 ≡ clear (halves masks) w recordWidth
+clearing-done {w} {masks} {k} v h = let l = v .within in let e : k * 2 ≡ recordWidth = omega arith in v .tests ∙ ap (clear (halves masks) w) e
 
 -- ---- word by word
 
@@ -147,7 +147,7 @@ all-clear masks w (suc n) f =
 
 module _ (P : ℕ → Type 0) (p0 : P 0) (p1 : P 1) (p2 : P 2) (p3 : P 3) (p4 : P 4) (p5 : P 5) (p6 : P 6) (p7 : P 7) (p8 : P 8) (p9 : P 9) (p10 : P 10)
     (p11 : P 11) (p12 : P 12) (p13 : P 13) (p14 : P 14) (p15 : P 15) where
-  each-word : (k : ℕ) → k < width → P k
+  each-word : (k : ℕ) → k < recordWidth → P k
   each-word =
       more P 15 (more P 14 (more P 13 (more P 12 (more P 11 (more P 10 (more P 9 (more P 8 (more P 7 (more P 6 (more P 5 (more P 4 (more P 3 (more P 2
       (more P 1 (more P 0 (λ k h. absurd (omega arith)) p0) p1) p2) p3) p4) p5) p6) p7) p8) p9) p10) p11) p12) p13) p14) p15
@@ -214,11 +214,11 @@ modernMasks = 0 ∷ 0 ∷ 0xFE000000 ∷ 0xFFFFFFE0 ∷ 0xFFFFC000 ∷ 0xFFFFFF0
 
 module _ (w : List ℕ) (u : (k : ℕ) → getD w k 0 < 2 ^ 32) where
   -- clear exactly when it goes inline
-  pub legacy-inline : clear legacyMasks w width ≡ goesInline lay.Legacy16 w
+  pub legacy-inline : clear legacyMasks w recordWidth ≡ goesInline lay.Legacy16 w
   legacy-inline =
-      same-test (clear legacyMasks w width) (goesInline lay.Legacy16 w)
+      same-test (clear legacyMasks w recordWidth) (goesInline lay.Legacy16 w)
       (λ h.
-      let c = clear-all legacyMasks w width h in
+      let c = clear-all legacyMasks w recordWidth h in
       let c2 : getD w 2 0 / 33554432 ≡ 0 = high-clear 7 25 (getD w 2 0) (u 2) (c 2 (lit< tt)) in
       let c3 : getD w 3 0 / 128 ≡ 0 = high-clear 25 7 (getD w 3 0) (u 3) (c 3 (lit< tt)) in
       let c4 : getD w 4 0 / 32768 ≡ 0 = high-clear 17 15 (getD w 4 0) (u 4) (c 4 (lit< tt)) in
@@ -233,7 +233,7 @@ module _ (w : List ℕ) (u : (k : ℕ) → getD w k 0 < 2 ^ 32) where
       (λ h.
       let z : inTheWay lay.Legacy16 w ≡ 0 = eqb-true (inTheWay lay.Legacy16 w) 0 (none-in-the-way lay.Legacy16 w refl ∙ h) in
       let y = sym (legacy-way w) ∙ z in
-      all-clear legacyMasks w width
+      all-clear legacyMasks w recordWidth
       (each-word (λ k. bitAnd (getD w k 0) (getD legacyMasks k 0) ≡ 0)
       (and-zero-r (getD w 0 0))
       (and-zero-r (getD w 1 0))
@@ -253,11 +253,11 @@ module _ (w : List ℕ) (u : (k : ℕ) → getD w k 0 < 2 ^ 32) where
       (and-zero-r (getD w 15 0))))
 
   -- clear exactly when it goes inline
-  pub modern-inline : clear modernMasks w width ≡ goesInline lay.Modern12 w
+  pub modern-inline : clear modernMasks w recordWidth ≡ goesInline lay.Modern12 w
   modern-inline =
-      same-test (clear modernMasks w width) (goesInline lay.Modern12 w)
+      same-test (clear modernMasks w recordWidth) (goesInline lay.Modern12 w)
       (λ h.
-      let c = clear-all modernMasks w width h in
+      let c = clear-all modernMasks w recordWidth h in
       let c2 : getD w 2 0 / 33554432 ≡ 0 = high-clear 7 25 (getD w 2 0) (u 2) (c 2 (lit< tt)) in
       let c3 : getD w 3 0 / 32 ≡ 0 = high-clear 27 5 (getD w 3 0) (u 3) (c 3 (lit< tt)) in
       let c4 : getD w 4 0 / 16384 ≡ 0 = high-clear 18 14 (getD w 4 0) (u 4) (c 4 (lit< tt)) in
@@ -276,7 +276,7 @@ module _ (w : List ℕ) (u : (k : ℕ) → getD w k 0 < 2 ^ 32) where
       (λ h.
       let z : inTheWay lay.Modern12 w ≡ 0 = eqb-true (inTheWay lay.Modern12 w) 0 (none-in-the-way lay.Modern12 w refl ∙ h) in
       let y = sym (modern-way w) ∙ z in
-      all-clear modernMasks w width
+      all-clear modernMasks w recordWidth
       (each-word (λ k. bitAnd (getD w k 0) (getD modernMasks k 0) ≡ 0)
       (and-zero-r (getD w 0 0))
       (and-zero-r (getD w 1 0))
@@ -296,10 +296,10 @@ module _ (w : List ℕ) (u : (k : ℕ) → getD w k 0 < 2 ^ 32) where
       (clear-high 31 1 (getD w 15 0) (omega arith))))
 
   -- clear of all that is plain: it goes inline, and the four words are 0
-  plain-inline : clear plainMasks w width ≡ true → (clear legacyMasks w width ≡ true) × (getD w 12 0 ≡ 0) × (getD w 13 0 ≡ 0) × (getD w 14 0 ≡ 0) × (getD w 15 0 ≡ 0)
+  plain-inline : clear plainMasks w recordWidth ≡ true → (clear legacyMasks w recordWidth ≡ true) × (getD w 12 0 ≡ 0) × (getD w 13 0 ≡ 0) × (getD w 14 0 ≡ 0) × (getD w 15 0 ≡ 0)
   plain-inline h =
-      let c = clear-all plainMasks w width h in (
-        all-clear legacyMasks w width
+      let c = clear-all plainMasks w recordWidth h in (
+        all-clear legacyMasks w recordWidth
             (each-word (λ k. bitAnd (getD w k 0) (getD legacyMasks k 0) ≡ 0)
             (c 0 (lit< tt))
             (c 1 (lit< tt))
@@ -324,10 +324,10 @@ module _ (w : List ℕ) (u : (k : ℕ) → getD w k 0 < 2 ^ 32) where
       )
 
   -- and a right row that goes inline is
-  inline-plain : (i : ℕ) → amiss lay.Legacy16 i w ≡ 0 → clear legacyMasks w width ≡ true → clear plainMasks w width ≡ true
+  inline-plain : (i : ℕ) → amiss lay.Legacy16 i w ≡ 0 → clear legacyMasks w recordWidth ≡ true → clear plainMasks w recordWidth ≡ true
   inline-plain i z h =
-      let c = clear-all legacyMasks w width h in
-      all-clear plainMasks w width
+      let c = clear-all legacyMasks w recordWidth h in
+      all-clear plainMasks w recordWidth
       (each-word (λ k. bitAnd (getD w k 0) (getD plainMasks k 0) ≡ 0)
       (c 0 (lit< tt))
       (c 1 (lit< tt))
@@ -377,10 +377,10 @@ module _ (rows : List ℕ) (i : ℕ) (u : (k : ℕ) → getD rows k 0 < 2 ^ 32) 
   first : getD row 0 0 ≡ getD rows (i * width) 0
   first = rw (add-zero (i * width)) at (row-word rows i 0 (lit< tt))
 
-  pub legacy-goes : clear legacyMasks row width ≡ goesInline lay.Legacy16 row
+  pub legacy-goes : clear legacyMasks row recordWidth ≡ goesInline lay.Legacy16 row
   legacy-goes = legacy-inline row small
 
-  pub modern-goes : clear modernMasks row width ≡ goesInline lay.Modern12 row
+  pub modern-goes : clear modernMasks row recordWidth ≡ goesInline lay.Modern12 row
   modern-goes = modern-inline row small
 
   -- its first two words as a pair: layout and number
@@ -431,7 +431,7 @@ module _ (rows : List ℕ) (i : ℕ) (u : (k : ℕ) → getD rows k 0 < 2 ^ 32) 
       rights : {k : ℕ} → k ≡ amiss layout i row → eqb k 0 ≡ rightRow layout i row
       rights d = none-amiss layout i row is-own is-number d
 
-  pub legacy-plain : {p : ℕ} {r : Bool} → p ≡ paired rows (i * width) → p ≡ own lay.Legacy16 → r ≡ clear plainMasks row width → Plain lay.Legacy16 i row r
+  pub legacy-plain : {p : ℕ} {r : Bool} → p ≡ paired rows (i * width) → p ≡ own lay.Legacy16 → r ≡ clear plainMasks row recordWidth → Plain lay.Legacy16 i row r
   legacy-plain f o e =
       record {
         right =
@@ -447,7 +447,7 @@ module _ (rows : List ℕ) (i : ℕ) (u : (k : ℕ) → getD rows k 0 < 2 ^ 32) 
             not-inline (goesInline lay.Legacy16 row) (λ q. either (inline-plain row small i z (legacy-goes ∙ q)) (sym e ∙ h));
       }
 
-  pub modern-plain : {p : ℕ} {r : Bool} → p ≡ paired rows (i * width) → p ≡ own lay.Modern12 → r ≡ clear modernMasks row width → Plain lay.Modern12 i row r
+  pub modern-plain : {p : ℕ} {r : Bool} → p ≡ paired rows (i * width) → p ≡ own lay.Modern12 → r ≡ clear modernMasks row recordWidth → Plain lay.Modern12 i row r
   modern-plain f o e =
       record {
         right =

@@ -1,21 +1,21 @@
 -- The check: rows one after another, and the first that is refused.
-use Prim.Native.Nat.{ℕ, zero, suc, _+_, _*_, _/_, _≤_, _<_}
+use Prim.Native.Nat.{ℕ, zero, suc, _+_, _*_, _-_, _≤_, _<_}
 use mathlib.Core.Path.{_≡_, refl, sym, ap, _∙_}
-use mathlib.Core.List.{List, [], _∷_}
+use mathlib.Core.List.{List}
 use mathlib.Core.Bool.{Bool, true, false, cond}
 use native.Mathlib.Omega.{arith}
 use native.Mathlib.Numerals.{add-one}
-use native.Mathlib.Nat.{add-suc, add-zero}
 use native.Mathlib.Decide.{le-ind}
-use lib.ListN.{length, getD, take, drop}
-use lib.Seq.{drop-cons}
+use lib.ListN.{length, getD, take, drop, length-drop}
+use lib.Seq.{length-take-le}
 use lib.Dec.{ltb, eqb}
 use borrow.Author.Tests.{lt-ltb, le-ltb, ltb-true, ltb-false}
 use Rattle.hbc_io.specs.declared.Refusal.{Refusal}
 use Rattle.hbc_io.specs.Outcome.{refusalAt}
 use Rattle.hbc_io.specs.Answer.{Answer, gives, refuses, refusedAt, andThen}
 use Rattle.hbc_io.proofs.Exits.{not-given}
-use Rattle.hbc_rows.specs.Rows.{rowAt}
+use Rattle.hbc_rows.specs.Rows.{rowAt, putRow}
+use Rattle.hbc_rows.proofs.RowsAt.{row-whole}
 use Rattle.hbc_function_record.specs.declared.Layout.{Layout}
 use Rattle.hbc_function_record.specs.declared.Layout.the-variants as lay
 use Rattle.hbc_function_record.specs.Record.{largeOf}
@@ -27,21 +27,16 @@ use Rattle.hbc_function_write.specs.declared.Looked.the-variants as look
 use Rattle.hbc_function_write.specs.Write.{rounded, freeAt, placeAt, endAt, saysEnd, rightEnd, checked, follows, rightRows}
 use Rattle.hbc_function_write.specs.Private.{none, first, planOf, largePlan, lookedAt, nextPlan}
 
--- ---- a row's words, one by one
+-- ---- a row, copied
 
--- the n words from word d after k on
-abbrev listed : ℕ → ℕ → ℕ → List ℕ → List ℕ
-listed k d zero s = []
-listed k d (suc n) s = getD s (k + d) 0 ∷ listed k (suc d) n s
-
-listed-part : (n k d : ℕ) (s : List ℕ) → k + d + n ≤ length s → listed k d n s ≡ take n (drop (k + d) s)
-listed-part zero k d s h = refl
-listed-part (suc n) k d s h =
-    rw (drop-cons s (k + d) 0 (omega arith), ← add-suc k d) (ap (getD s (k + d) 0 ∷_) (listed-part n k (suc d) s (omega arith)))
-
-pub row-listed : (s : List ℕ) (i : ℕ) → i * width + width ≤ length s → getD s (i * width) 0 ∷ listed (i * width) 1 15 s ≡ rowAt width s i
+pub row-copied : (rows t : List ℕ) (i : ℕ) {row part : List ℕ} → i * width + width ≤ length rows → length t ≡ width
+    → part ≡ take (i * width + width - i * width) (drop (i * width) rows) → row ≡ putRow (length part) t 0 part → row ≡ rowAt width rows i
 unfolding rowAt
-row-listed s i h = rw (add-zero (i * width)) at (listed-part 16 (i * width) 0 s (omega arith))
+row-copied rows t i {row} {part} h l e p =
+    let n : i * width + width - i * width ≡ width = omega arith in
+    let q : part ≡ take width (drop (i * width) rows) = rw n at e in
+    let k : width ≤ length (drop (i * width) rows) = rw length-drop (omega arith) in
+    p ∙ row-whole t part (ap length q ∙ length-take-le width (drop (i * width) rows) k ∙ sym l) ∙ q
 
 -- ---- the plan
 

@@ -6,7 +6,7 @@ ghost use lib.ListN.{length};
 ghost use Rattle.hbc_io.specs.Answer.{gives};
 ghost use Rattle.hbc_rows.specs.Rows.{rowAt};
 ghost use Rattle.hbc_function_record.specs.Record.{sizeOf, largeOf};
-ghost use Rattle.hbc_function_record.specs.Row.{width};
+ghost use Rattle.hbc_function_record.specs.Row.{width, recordWidth};
 ghost use Rattle.hbc_function_record.specs.declared.Layout.the-variants.{Legacy16, Modern12};
 ghost use Rattle.hbc_function_bytes.specs.Bytes.{goesInline};
 ghost use Rattle.hbc_function_write.specs.Write.{saysWrote, rounded, endAt, putHeaders, saysEnd, rightRows, WriteFunctions};
@@ -17,6 +17,7 @@ use hbc_function_bytes::row_is_right;
 use hbc_function_put::put_header;
 use hbc_function_put::put_large;
 use hbc_function_record::Layout;
+use hbc_function_record::RECORD_WIDTH;
 use hbc_function_record::ROW_INFO_OFFSET;
 use hbc_function_record::WIDTH;
 use hbc_function_record::bit_layout::LEGACY;
@@ -27,6 +28,7 @@ use hbc_function_record::large_size;
 use hbc_io::LIMIT;
 use hbc_io::Refusal;
 use hbc_io::refuse;
+use hbc_rows::put_row;
 
 // The end of what was written, or the refusal.
 pub enum Wrote {
@@ -76,25 +78,10 @@ fn row_at(rows: &[u32], id: u32) -> [u32; WIDTH]
     requires { ⌜ id * width + width ≤ length (now rows) ⌝ }
     ensures { λ w. ⌜ w ≡ rowAt width (now (rows .entry)) id ⌝ }
 {
-    let a = (id as usize) * WIDTH;
-    [
-        rows[a],
-        rows[a + 1],
-        rows[a + 2],
-        rows[a + 3],
-        rows[a + 4],
-        rows[a + 5],
-        rows[a + 6],
-        rows[a + 7],
-        rows[a + 8],
-        rows[a + 9],
-        rows[a + 10],
-        rows[a + 11],
-        rows[a + 12],
-        rows[a + 13],
-        rows[a + 14],
-        rows[a + 15],
-    ]
+    let at = (id as usize) * WIDTH;
+    let mut row = [0u32; WIDTH];
+    put_row(&mut row, 0, &rows[at..at + WIDTH]);
+    row
 }
 
 // Two words from `at` on, the first in the low half: a compiler makes one load of it.
@@ -105,8 +92,8 @@ fn pair(rows: &[u32], at: usize) -> u64
     (rows[at] as u64) + (rows[at + 1] as u64) * WORD
 }
 
-// The pairs of a row.
-const PAIRS: usize = 8;
+// The pairs of a row's record; the place behind it is not looked at.
+const PAIRS: usize = RECORD_WIDTH / 2;
 
 // One more than a word of 32 bits holds; all bits of a pair; and the overflow bit.
 const WORD: u64 = 0x1_0000_0000;
@@ -153,7 +140,7 @@ const MODERN_MASKS: [u64; PAIRS] = [
 // Whether none of these bits is set in row `id`: or-ed and asked once, so that there is one branch; by pairs, so that there is half the work.
 fn is_clear(rows: &[u32], id: u32, masks: [u64; PAIRS]) -> bool
     requires { ⌜ id * width + width ≤ length (now rows) ⌝ }
-    ensures { λ r. ⌜ r ≡ clear (halves masks) (rowAt width (now (rows .entry)) id) width ⌝ }
+    ensures { λ r. ⌜ r ≡ clear (halves masks) (rowAt width (now (rows .entry)) id) recordWidth ⌝ }
 {
     let at = (id as usize) * WIDTH;
     let mut set: u64 = 0;

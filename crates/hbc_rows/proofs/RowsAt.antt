@@ -1,14 +1,14 @@
 -- What a lent table holds after words or rows were put: each is the one that was put there, every other word is as it was.
 use Prim.Native.Nat.{ℕ, zero, suc, _+_, _*_, _/_, _≤_, _<_}
 use mathlib.Core.Path.{_≡_, refl, ap, sym, _∙_}
-use mathlib.Core.List.{List, [], _∷_, _++_}
+use mathlib.Core.List.{List, [], _∷_, _++_, append-nil}
 use mathlib.Core.Bool.{Bool, true, false, cond}
 use native.Mathlib.Omega.{arith}
-use native.Mathlib.Nat.{zero-add, add-zero, suc-mul, mul-le-mul-right, div-mul-le-self, lt-div-mul-add}
+use native.Mathlib.Nat.{zero-mul, zero-add, add-zero, suc-mul, mul-le-mul-right, div-mul-le-self, lt-div-mul-add}
 use native.Mathlib.Numerals.{add-one}
-use lib.ListN.{length, getD, set, length-set, take, drop, length-drop}
+use lib.ListN.{length, getD, set, length-set, drop, length-drop, drop-of-length-le}
 use lib.Dec.{ltb, eqb}
-use lib.Seq.{sets, length-sets, sets-eq, ext-getD, getD-set-same, getD-set-other, getD-take, getD-drop, length-take-le, take-at, drop-at}
+use lib.Seq.{sets, length-sets, sets-eq, ext-getD, getD-set-same, getD-set-other, getD-take, getD-drop, length-take-le}
 use borrow.Author.Tests.{ltb-true, ltb-false, le-ltb, lt-ltb, eqb-true, eqb-false}
 use Rattle.hbc_rows.specs.Rows.{entryAt, rowAt, filled, putRow, putRows}
 use Rattle.hbc_rows.proofs.Laws.{filled-length}
@@ -186,3 +186,16 @@ row-put w f base t n i len h l =
     let short : ((j : ℕ) → length (f j) ≤ w) = λ j. omega (arith, len j) in
     row-is w (putRows w f base n t) (base + i) (f i) (rw (rows-length w f short base t n) l) (len i)
     (λ c m. rows-at w f short base t n i c h (rw (len i) m) l)
+
+whole-by : (before words : List ℕ) (i : ℕ) → i ≡ 0 → length words ≡ length before → sets before i words ≡ words
+whole-by before words i z e =
+    let k : length before ≤ 0 + length words = omega arith in
+    rw z (sets-eq words before 0 (omega arith) ∙ ap (λ (u : List ℕ). words ++ u) (drop-of-length-le before k) ∙ append-nil words)
+
+-- a row put over as many words is all of them
+pub row-whole : (before words : List ℕ) → length words ≡ length before → putRow (length words) before 0 words ≡ words
+unfolding putRow
+row-whole before words e =
+    let z : 0 * length words ≡ 0 = zero-mul (length words) in
+    let l : 0 * length words + length words ≤ length before = omega arith in
+    rw (le-ltb (length before) (0 * length words + length words) l) (whole-by before words (0 * length words) z e)

@@ -1,5 +1,6 @@
 // Function tables. Asked: start, both ends of the span, words lent; layout, count or number. The answer: code, 0.
 use hbc_function_header::Function;
+use hbc_function_record::Found;
 use hbc_function_record::Layout;
 use hbc_function_record::WIDTH;
 use hbc_io::Span;
@@ -59,11 +60,11 @@ fn layout_of(n: u32) -> Layout {
     }
 }
 
-// The record itself, not the row that the boundary copies.
+// What is found itself, not the row that the boundary copies.
 pub(crate) fn read_function(record: &[u8], s: &[u8], n: Asked) -> bool {
     match hbc_function_header::read_function(s, layout_of(n.p), n.a, n.q) {
-        Function::Read(r) => {
-            let row = hbc_function_record::row_words(r);
+        Function::Read(own, place) => {
+            let row = hbc_function_record::row_words(Found { own, place });
             leaves(record, 1, 0, &row)
         }
         Function::Refused(r) => {

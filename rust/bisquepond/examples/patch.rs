@@ -11,7 +11,7 @@ use std::fmt::Display;
 use std::process::ExitCode;
 
 use bisquepond::Layout;
-use bisquepond::function::{self, FunctionTable};
+use bisquepond::function::{self, FunctionRow, FunctionTable};
 
 fn main() -> ExitCode {
     let words: Vec<String> = std::env::args().skip(1).collect();
@@ -88,9 +88,13 @@ fn patch(
     println!("{} of {} rows read again", again.len(), table.len());
     for id in again {
         let (old, new) = (&before[id as usize], &table[id as usize]);
+        let (was, is) = (read_from(old), read_from(new));
+        if was != is {
+            println!("  function {id}: {was} -> {is}");
+        }
         let fields = old.fields().zip(new.fields());
         for ((name, old), (_, now)) in fields.filter(|(old, now)| old != now) {
-            println!("  function {id}: {name} {old} -> {now}");
+            println!("  function {id}, {is}: {name} {old} -> {now}");
         }
     }
 
@@ -101,6 +105,14 @@ fn patch(
         false => return Err("a fresh read gives other rows".into()),
     }
     Ok(())
+}
+
+/// What a row was read from: where to look in the file.
+fn read_from(row: &FunctionRow) -> String {
+    match row.large_place() {
+        Some(place) => format!("large header at byte {place}"),
+        None => "inline".to_string(),
+    }
 }
 
 /// Three functions. The fields of the second do not fit into 16 bytes: it has a large header, far from the table.
@@ -125,13 +137,14 @@ fn sample() -> Result<(), Box<dyn Error>> {
 
     let mut table = function::read_functions(&file, Layout::Legacy16, START, 3)?;
     println!(
-        "a sample of {} bytes, 3 functions from byte {START}, the large header of function 1 at byte {LARGE}:",
+        "a sample of {} bytes, 3 functions from byte {START}:",
         file.len()
     );
     for row in &table {
         println!(
-            "  function {}: offset {} size {} name {} frame {} flags {}",
+            "  function {}, {}: offset {} size {} name {} frame {} flags {}",
             row.id(),
+            read_from(row),
             row.offset(),
             row.size(),
             row.name(),
@@ -153,7 +166,9 @@ fn sample() -> Result<(), Box<dyn Error>> {
     println!("{refused}");
     println!("function 0 still has the size {}", table[0].size());
     // The place is put right. What was refused is not forgotten: function 0 is read again too.
-    patch(&mut file, &mut table, START + 24, &[0])
+    patch(&mut file, &mut table, START + 24, &[0])?;
+    // The flag of function 1 is cleared: it is read from its own header, whose offset was the place.
+    patch(&mut file, &mut table, START + 31, &[0x04])
 }
 
 fn hex(bytes: &[u8]) -> String {

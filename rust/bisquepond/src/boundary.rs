@@ -46,7 +46,8 @@ pub unsafe trait Row: Copy + Default + 'static {
     /// let mut words = [7; 20];
     /// let rows = FunctionRow::rows_mut(&mut words);
     /// function::read_functions_into(&file, Layout::Legacy16, 0, 1, rows)?;
-    /// assert_eq!(words, [0, 0, 256, 2, 10, 3, 0, 5, 4, 1, 2, 3, 0, 0, 0, 0, 7, 7, 7, 7]);
+    /// assert_eq!(words[..16], [0, 0, 256, 2, 10, 3, 0, 5, 4, 1, 2, 3, 0, 0, 0, 0]);
+    /// assert_eq!(words[16..], [function::INLINE, 7, 7, 7]);
     /// # Ok::<(), bisquepond::Refusal>(())
     /// ```
     fn rows_mut(words: &mut [u32]) -> &mut [Self] {
@@ -81,7 +82,7 @@ macro_rules! rows {
         $(
             $(#[$doc])*
             #[repr(transparent)]
-            #[derive(Clone, Copy, PartialEq, Eq, Hash, Default)]
+            #[derive(Clone, Copy, PartialEq, Eq, Hash)]
             pub struct $row(pub(crate) [u32; $words]);
 
             // SAFETY: declared so in the lines above.
@@ -93,19 +94,29 @@ macro_rules! rows {
 }
 
 rows! {
-    /// One function's header, read from its place in the table or from its large header.
-    FunctionRow 16
+    /// One function's header, read from its place in the table or from its large header; and which of them it was
+    /// ([`large_place`](FunctionRow::large_place)).
+    ///
+    /// Two rows are equal if all of this is. Whoever writes a row and reads it back may find its large header elsewhere:
+    /// then its [`record`](FunctionRow::record) is the same.
+    FunctionRow 17
     /// One string: where its bytes lie in the storage, and its marks.
+    #[derive(Default)]
     StringRow 4
     /// One exception handler.
+    #[derive(Default)]
     HandlerRow 4
     /// One string of the debug section: where its bytes lie in the file.
+    #[derive(Default)]
     TextRow 2
     /// One scope of the debug section.
+    #[derive(Default)]
     ScopeRow 5
     /// One name of a scope.
+    #[derive(Default)]
     NameRow 1
     /// One callee of the debug section.
+    #[derive(Default)]
     CalleeRow 2
 }
 

@@ -1,7 +1,8 @@
 //! Function headers of both layouts, and tables of them that follow an edit.
 //!
 //! A header whose overflow flag is set is read from its large header, at the place packed into it, which may lie
-//! anywhere in the file. So an edit far from the table can change a row, and [`FunctionTable::refresh`] knows which.
+//! anywhere in the file. So an edit far from the table can change a row, and [`FunctionTable::refresh`] knows which; and
+//! each row has the place that it was read from ([`FunctionRow::large_place`]).
 //!
 //! The other way round, copies of a table's rows are edited, and [`write_functions`] makes headers of them again.
 
@@ -12,7 +13,7 @@ use core::slice;
 use core::str::FromStr;
 
 use crate::refusal::Place;
-use crate::{Reason, Refusal, Result, Table};
+use crate::{Reason, Refusal, Result, Row, Table};
 use crate::{boundary, sys};
 
 pub use crate::boundary::FunctionRow;
@@ -25,6 +26,13 @@ pub const FLAG_HAS_EXCEPTION_HANDLER: u32 = 0x08;
 pub const FLAG_PROHIBIT_CONSTRUCT: u32 = 0x10;
 /// The flags byte says that the fields are in a large header.
 pub const FLAG_OVERFLOWED: u32 = 0x20;
+
+/// The last word of a row that was read from its own header, and from no large one. No place is that far: a file has at
+/// most 2^30 bytes.
+pub const INLINE: u32 = u32::MAX;
+
+/// The word of a row that has the place of its large header; the words before it are the row's record.
+const LARGE_PLACE: usize = 16;
 
 /// The two layouts of a function header. It is shown as `legacy16` or `modern12`, and read from these words, or from the
 /// number that it has in C.
@@ -208,6 +216,23 @@ const MODERN: [&str; 7] = [
     "private_name",
 ];
 
+/// A legacy row of zeros, to be filled field by field: it was read from no large header.
+///
+/// ```
+/// use bisquepond::{Layout, function::FunctionRow};
+///
+/// let row = FunctionRow::default();
+/// assert_eq!((row.layout(), row.large_place()), (Some(Layout::Legacy16), None));
+/// assert!(row.record().iter().all(|&word| word == 0));
+/// ```
+impl Default for FunctionRow {
+    fn default() -> FunctionRow {
+        let mut words = [0; FunctionRow::WORDS];
+        words[LARGE_PLACE] = INLINE;
+        FunctionRow(words)
+    }
+}
+
 impl FunctionRow {
     /// The layout of the header that it was read from; none of words that no call wrote, whose first is neither 0 nor 1.
     ///
@@ -216,7 +241,7 @@ impl FunctionRow {
     /// # let file = [0, 1, 0, 0x44, 0x0A, 0xC0, 0, 0x29, 6, 7, 0x48, 4];
     /// let row = function::read_function(&file, Layout::Modern12, 0, 0)?;
     /// assert_eq!(row.layout(), Some(Layout::Modern12));
-    /// assert_eq!(FunctionRow::rows(&[7; 16])[0].layout(), None);
+    /// assert_eq!(FunctionRow::rows(&[7; FunctionRow::WORDS])[0].layout(), None);
     /// # Ok::<(), bisquepond::Refusal>(())
     /// ```
     pub const fn layout(&self) -> Option<Layout> {
@@ -225,6 +250,59 @@ impl FunctionRow {
             1 => Some(Layout::Modern12),
             _ => None,
         }
+    }
+
+    /// Where in the file the large header is that it was read from; none if it was read from its own header. This is the
+    /// last word of the row as it is in C, where [`INLINE`] stands for none. It is below 2^30 in every row that was read.
+    ///
+    /// A writer does not look at it ([`write_functions`]), and it stays what it was when fields are set.
+    ///
+    /// ```
+    /// # use bisquepond::{Layout, function};
+    /// // The first header names a large one at byte 40: its offset is 40, and its overflow bit is set. The second has none.
+    /// let mut file = [0; 71];
+    /// (file[0], file[15]) = (40, 0x20);
+    /// let mut table = function::read_functions(&file, Layout::Legacy16, 0, 2)?;
+    /// assert_eq!((table[0].large_place(), table[1].large_place()), (Some(40), None));
+    ///
+    /// // Another place, and then none: the row follows.
+    /// file[0] = 39;
+    /// assert_eq!(table.refresh(&file, 0..1)?.len(), 1);
+    /// assert_eq!(table[0].large_place(), Some(39));
+    /// file[15] = 0;
+    /// assert_eq!(table.refresh(&file, 15..16)?.len(), 1);
+    /// assert_eq!(table[0].large_place(), None);
+    /// # Ok::<(), bisquepond::Refusal>(())
+    /// ```
+    pub const fn large_place(&self) -> Option<u32> {
+        match self.0[LARGE_PLACE] {
+            INLINE => None,
+            place => Some(place),
+        }
+    }
+
+    /// The words of its record as they are in C: layout, number and fields, all of the row but the place of its large
+    /// header. They are what a writer looks at, and what is read back of a row that was written, wherever its large
+    /// header went.
+    ///
+    /// ```
+    /// # use bisquepond::{Layout, function};
+    /// // A row that needs a large header, written from byte 16 on and from byte 20 on.
+    /// let mut row = function::read_function(&[0; 16], Layout::Legacy16, 0, 0)?;
+    /// row.set_size(1 << 15);
+    /// let read_back = |large| {
+    ///     let mut bytes = Vec::new();
+    ///     function::write_functions(&[row], Layout::Legacy16, 0, large, &mut bytes)?;
+    ///     function::read_function(&bytes, Layout::Legacy16, 0, 0)
+    /// };
+    /// let (near, far) = (read_back(16)?, read_back(20)?);
+    /// assert_eq!((near.large_place(), far.large_place(), row.large_place()), (Some(16), Some(20), None));
+    /// assert_eq!((near.record(), far.record()), (row.record(), row.record()));
+    /// assert!(near != far && near != row);
+    /// # Ok::<(), bisquepond::Refusal>(())
+    /// ```
+    pub fn record(&self) -> &[u32] {
+        &self.0[..LARGE_PLACE]
     }
 
     /// The fields that only its layout has; none where it has no layout.
@@ -238,7 +316,7 @@ impl FunctionRow {
     /// # Ok::<(), bisquepond::Refusal>(())
     /// ```
     pub const fn rest(&self) -> Option<Rest> {
-        let [_, _, _, _, _, _, _, _, _, a, b, c, d, e, f, g] = self.0;
+        let [_, _, _, _, _, _, _, _, _, a, b, c, d, e, f, g, _] = self.0;
         match self.layout() {
             Some(Layout::Legacy16) => Some(Rest::Legacy16 {
                 environment_size: a,
@@ -274,7 +352,8 @@ impl FunctionRow {
         }
     }
 
-    /// Every field by its name, in the order of the row; of no layout those alone that both have.
+    /// Every field by its name, in the order of the row; of no layout those alone that both have. The place of its large
+    /// header is none of them: [`large_place`](Self::large_place).
     ///
     /// ```
     /// # use bisquepond::{Layout, function};
@@ -332,7 +411,7 @@ flags! {
 
 impl FunctionRow {
     /// Whether its flags have the overflow bit (bit 5). Of a function that was read from its large header these are the
-    /// large header's own flags, in which the bit need not be set.
+    /// large header's own flags, in which the bit need not be set: whether it was, [`large_place`](Self::large_place) says.
     ///
     /// ```
     /// # use bisquepond::{Layout, function};
@@ -439,7 +518,8 @@ impl FunctionRow {
             ),
         };
         self.0[0] = layout.number();
-        let (_, words) = self.0.split_at_mut(9);
+        let (words, _) = self.0.split_at_mut(LARGE_PLACE);
+        let (_, words) = words.split_at_mut(LARGE_PLACE - own.len());
         words.copy_from_slice(&own);
     }
 
@@ -460,7 +540,7 @@ impl FunctionRow {
         let Some(layout) = self.layout() else {
             return false;
         };
-        let mut fields = self.0[2..].iter().zip(WIDTHS[layout as usize]);
+        let mut fields = self.record()[2..].iter().zip(WIDTHS[layout as usize]);
         !self.is_overflowed() && fields.all(|(word, width)| word >> width == 0)
     }
 }
@@ -478,6 +558,7 @@ impl fmt::Debug for FunctionRow {
         for (name, word) in self.fields() {
             shown.field(name, &word);
         }
+        shown.field("large_place", &self.large_place());
         shown.finish()
     }
 }
@@ -689,8 +770,10 @@ pub fn read_functions(
 }
 
 /// Writes rows as a table of headers into a buffer that is lent, from byte `start` on, and answers where what was written
-/// ends. [`read_functions`] of the buffer, with the same layout and start, reads these rows back. No byte is written but
-/// those of headers and large headers.
+/// ends. [`read_functions`] of the buffer, with the same layout and start, reads their [records](FunctionRow::record) back,
+/// each with the place of its large header as it is now. No byte is written but those of headers and large headers; where
+/// a row's large header was ([`FunctionRow::large_place`]) is not looked at, and stays in the rows: read them from the
+/// buffer before you go by it.
 ///
 /// A row goes into its own header if it fits there ([`FunctionRow::goes_inline`]). The others go to large headers, in the
 /// order of their rows, each at the next multiple of 4: the first at `large`, or behind it. Of a modern one the place says
@@ -765,8 +848,8 @@ pub fn write_functions_into(
 /// let end = function::write_functions(&rows, Layout::Modern12, 0, large, &mut file)?;
 /// assert_eq!((end, file.len(), file[4]), (61, 61, 12));
 /// let again = function::read_functions(&file, Layout::Modern12, 0, 2)?;
-/// assert_eq!(again[..], rows[..]);
-/// assert_eq!(function::function_ground(&file, Layout::Modern12, 0, 1)?.large, Some(24));
+/// assert_eq!((again[0], again[1].record()), (rows[0], rows[1].record()));
+/// assert_eq!((rows[1].large_place(), again[1].large_place()), (None, Some(24)));
 /// # Ok::<(), bisquepond::Refusal>(())
 /// ```
 pub fn write_functions(
@@ -921,7 +1004,8 @@ impl FunctionTable {
     /// ```
     /// # use bisquepond::{Layout, function};
     /// let table = function::read_functions(&[0; 12], Layout::Modern12, 0, 1)?;
-    /// assert_eq!(table.words(), [1, 0, 0, 0, 0, 0, 0, 0, 0, 0, 0, 0, 0, 0, 0, 0]);
+    /// assert_eq!(table.words()[..16], [1, 0, 0, 0, 0, 0, 0, 0, 0, 0, 0, 0, 0, 0, 0, 0]);
+    /// assert_eq!(table.words()[16..], [function::INLINE]);
     /// # Ok::<(), bisquepond::Refusal>(())
     /// ```
     pub fn words(&self) -> &[u32] {
@@ -929,7 +1013,8 @@ impl FunctionTable {
     }
 
     /// Writes the table as headers into a buffer that is lent, in the layout and at the start that it was read by:
-    /// [`write_functions_into`] of its rows.
+    /// [`write_functions_into`] of its rows. The table is not changed: its rows still have the places that they were read
+    /// from, and not those of the large headers in the buffer.
     ///
     /// ```
     /// # use bisquepond::{Layout, function};

@@ -10,7 +10,7 @@ pub use crate::boundary::HandlerRow;
 
 words! {
     HandlerRow,
-    "# use bisquepond::{Row, function::FunctionRow, parsing};\n# let file = [0, 0, 0, 0, 1, 0, 0, 0, 10, 0, 0, 0, 20, 0, 0, 0, 30, 0, 0, 0];\n# let functions = FunctionRow::rows(&[0, 0, 0, 0, 0, 0, 4, 0, 8, 0, 0, 0, 0, 0, 0, 0]);\nlet row = parsing::read_handlers(&file, functions, 1)?[0];":
+    "# use bisquepond::{function::FunctionRow, parsing};\n# let file = [0, 0, 0, 0, 1, 0, 0, 0, 10, 0, 0, 0, 20, 0, 0, 0, 30, 0, 0, 0];\n# let mut function = FunctionRow::default();\n# function.set_info_offset(4);\n# function.set_flags(8);\nlet row = parsing::read_handlers(&file, &[function], 1)?[0];":
     /// The number of the function that it belongs to.
     function = 0, "0";
     /// Where the bytes that it guards begin.
@@ -45,17 +45,19 @@ impl fmt::Debug for HandlerRow {
 /// `TooLong`; `TooFewToRead` if fewer than `count` functions are lent; `TooFewRows` if there are more handlers than rows.
 ///
 /// ```
-/// use bisquepond::{Row, function::FunctionRow, parsing::{self, HandlerRow}};
+/// use bisquepond::{function::FunctionRow, parsing::{self, HandlerRow}};
 ///
 /// // At byte 4 stand the count 1 and one handler; function 0 has info_offset 4 and its flag set.
 /// let file = [0, 0, 0, 0, 1, 0, 0, 0, 10, 0, 0, 0, 20, 0, 0, 0, 30, 0, 0, 0];
-/// let functions = FunctionRow::rows(&[0, 0, 0, 0, 0, 0, 4, 0, 8, 0, 0, 0, 0, 0, 0, 0]);
+/// let mut functions = [FunctionRow::default()];
+/// functions[0].set_info_offset(4);
+/// functions[0].set_flags(8);
 /// let mut rows = [HandlerRow::default(); 2];
-/// let handlers = parsing::read_handlers_into(&file, functions, 1, &mut rows)?;
+/// let handlers = parsing::read_handlers_into(&file, &functions, 1, &mut rows)?;
 /// assert_eq!((handlers.len(), handlers[0].target()), (1, 30));
-/// let few = parsing::read_handlers_into(&file, functions, 2, &mut rows).unwrap_err();
+/// let few = parsing::read_handlers_into(&file, &functions, 2, &mut rows).unwrap_err();
 /// assert_eq!(few.number, 11);
-/// let short = parsing::read_handlers_into(&file, functions, 1, &mut []).unwrap_err();
+/// let short = parsing::read_handlers_into(&file, &functions, 1, &mut []).unwrap_err();
 /// assert_eq!(short.number, 4);
 /// # Ok::<(), bisquepond::Refusal>(())
 /// ```
@@ -77,15 +79,17 @@ pub fn read_handlers_into<'t>(
 /// Those of [`read_handlers_into`], but never `TooFewRows`.
 ///
 /// ```
-/// use bisquepond::{Row, function::FunctionRow, parsing};
+/// use bisquepond::{function::FunctionRow, parsing};
 ///
 /// // 64 bytes, info_offset 45 and the count 2 at byte 48: the second handler is cut, so there is none, not one.
 /// let mut file = [0; 64];
 /// file[48] = 2;
-/// let functions = FunctionRow::rows(&[0, 0, 0, 0, 0, 0, 45, 0, 8, 0, 0, 0, 0, 0, 0, 0]);
-/// assert!(parsing::read_handlers(&file, functions, 1)?.is_empty());
+/// let mut functions = [FunctionRow::default()];
+/// functions[0].set_info_offset(45);
+/// functions[0].set_flags(8);
+/// assert!(parsing::read_handlers(&file, &functions, 1)?.is_empty());
 /// file[48] = 1;
-/// assert_eq!(parsing::read_handlers(&file, functions, 1)?.len(), 1);
+/// assert_eq!(parsing::read_handlers(&file, &functions, 1)?.len(), 1);
 /// # Ok::<(), bisquepond::Refusal>(())
 /// ```
 pub fn read_handlers(
@@ -101,13 +105,16 @@ pub fn read_handlers(
 /// The handlers of one function, of rows as [`read_handlers`] and [`read_handlers_into`] answer them, functions rising.
 ///
 /// ```
-/// use bisquepond::{Row, function::FunctionRow, parsing};
+/// use bisquepond::{function::FunctionRow, parsing};
 ///
 /// // Functions 0 and 2 share one handler; function 1 has none.
 /// let file = [0, 0, 0, 0, 1, 0, 0, 0, 10, 0, 0, 0, 20, 0, 0, 0, 30, 0, 0, 0];
-/// let row = |flags| [0, 0, 0, 0, 0, 0, 4, 0, flags, 0, 0, 0, 0, 0, 0, 0];
-/// let words = [row(8), row(0), row(8)].concat();
-/// let handlers = parsing::read_handlers(&file, FunctionRow::rows(&words), 3)?;
+/// let mut functions = [FunctionRow::default(); 3];
+/// for (row, flags) in functions.iter_mut().zip([8, 0, 8]) {
+///     row.set_info_offset(4);
+///     row.set_flags(flags);
+/// }
+/// let handlers = parsing::read_handlers(&file, &functions, 3)?;
 /// assert_eq!(parsing::handlers_of(&handlers, 2)[0].target(), 30);
 /// assert!(parsing::handlers_of(&handlers, 1).is_empty());
 /// # Ok::<(), bisquepond::Refusal>(())
@@ -216,20 +223,22 @@ whys! {
 /// `TooLong`; `TooFewToRead` if there is no row `id`.
 ///
 /// ```
-/// use bisquepond::{Row, function::FunctionRow, parsing::{self, Why}};
+/// use bisquepond::{function::FunctionRow, parsing::{self, Why}};
 ///
 /// // At byte 4 stand the count 2 and one handler and a half.
 /// let mut file = [0; 26];
 /// file[4] = 2;
-/// let row = |info_offset, flags| [0, 0, 0, 0, 0, 0, info_offset, 0, flags, 0, 0, 0, 0, 0, 0, 0];
-/// let words = [row(4, 8), row(4, 0), row(26, 8)].concat();
-/// let functions = FunctionRow::rows(&words);
-/// assert_eq!(parsing::why_no_handlers(&file, functions, 0)?, Why::Cut);
-/// assert_eq!(parsing::why_no_handlers(&file, functions, 1)?, Why::FlagClear);
-/// assert_eq!(parsing::why_no_handlers(&file, functions, 2)?, Why::InfoPast);
-/// assert_eq!(parsing::why_no_handlers(&file, functions, 3).unwrap_err().number, 11);
+/// let mut functions = [FunctionRow::default(); 3];
+/// for (row, (info_offset, flags)) in functions.iter_mut().zip([(4, 8), (4, 0), (26, 8)]) {
+///     row.set_info_offset(info_offset);
+///     row.set_flags(flags);
+/// }
+/// assert_eq!(parsing::why_no_handlers(&file, &functions, 0)?, Why::Cut);
+/// assert_eq!(parsing::why_no_handlers(&file, &functions, 1)?, Why::FlagClear);
+/// assert_eq!(parsing::why_no_handlers(&file, &functions, 2)?, Why::InfoPast);
+/// assert_eq!(parsing::why_no_handlers(&file, &functions, 3).unwrap_err().number, 11);
 /// file[4] = 1;
-/// assert_eq!(parsing::why_no_handlers(&file, functions, 0)?, Why::Shown(1));
+/// assert_eq!(parsing::why_no_handlers(&file, &functions, 0)?, Why::Shown(1));
 /// # Ok::<(), bisquepond::Refusal>(())
 /// ```
 pub fn why_no_handlers(file: &[u8], functions: &[FunctionRow], id: u32) -> Result<Why> {
@@ -244,14 +253,16 @@ pub fn why_no_handlers(file: &[u8], functions: &[FunctionRow], id: u32) -> Resul
 /// Those of [`read_handlers`].
 ///
 /// ```
-/// use bisquepond::{Row, function::FunctionRow, parsing};
+/// use bisquepond::{function::FunctionRow, parsing};
 ///
 /// // Two functions that share one handler.
 /// let file = [0, 0, 0, 0, 1, 0, 0, 0, 10, 0, 0, 0, 20, 0, 0, 0, 30, 0, 0, 0];
-/// let words = [0, 0, 0, 0, 0, 0, 4, 0, 8, 0, 0, 0, 0, 0, 0, 0].repeat(2);
-/// let functions = FunctionRow::rows(&words);
-/// assert_eq!(parsing::count_handlers(&file, functions, 2)?, 2);
-/// assert_eq!(parsing::count_handlers(&file, functions, 3).unwrap_err().number, 11);
+/// let mut function = FunctionRow::default();
+/// function.set_info_offset(4);
+/// function.set_flags(8);
+/// let functions = [function; 2];
+/// assert_eq!(parsing::count_handlers(&file, &functions, 2)?, 2);
+/// assert_eq!(parsing::count_handlers(&file, &functions, 3).unwrap_err().number, 11);
 /// # Ok::<(), bisquepond::Refusal>(())
 /// ```
 pub fn count_handlers(file: &[u8], functions: &[FunctionRow], count: u32) -> Result<usize> {

@@ -62,7 +62,8 @@ impl<R: Row> Table<R> {
     ///
     /// let file = [0, 1, 0, 4, 0x0A, 0x80, 1, 0, 0, 0, 0, 0x0A, 1, 2, 3, 4];
     /// let table = function::read_functions(&file, Layout::Legacy16, 0, 1)?;
-    /// assert_eq!(table.words(), [0, 0, 256, 2, 10, 3, 0, 5, 4, 1, 2, 3, 0, 0, 0, 0]);
+    /// assert_eq!(table.words()[..16], [0, 0, 256, 2, 10, 3, 0, 5, 4, 1, 2, 3, 0, 0, 0, 0]);
+    /// assert_eq!(table.words()[16..], [function::INLINE]);
     /// # Ok::<(), bisquepond::Refusal>(())
     /// ```
     pub fn words(&self) -> &[u32] {

@@ -21,6 +21,8 @@ fn refused<T: std::fmt::Debug>(answer: Result<T, Refusal>) -> (u32, u32) {
     (refusal.number, refusal.place)
 }
 
+const LAYOUTS: [Layout; 2] = [Layout::Legacy16, Layout::Modern12];
+
 /// A file of so many zeros that begins with a header of that layout, flagged, whose fields pack a place.
 fn flagged(layout: Layout, len: usize, offset: u32, packed: u8) -> Vec<u8> {
     let mut file = vec![0; len];
@@ -35,12 +37,21 @@ fn flagged(layout: Layout, len: usize, offset: u32, packed: u8) -> Vec<u8> {
     file
 }
 
+/// A row of which info_offset and flags are set alone.
+fn function_at(info_offset: u32, flags: u32) -> FunctionRow {
+    let mut row = FunctionRow::default();
+    row.set_info_offset(info_offset);
+    row.set_flags(flags);
+    row
+}
+
 #[test]
 fn p1_a_legacy_header() {
     let row = function::read_function(&P1, Layout::Legacy16, 0, 0).unwrap();
     let words: Vec<u32> = row.fields().map(|(_, word)| word).collect();
     assert_eq!(words, [0, 256, 2, 10, 3, 0, 5, 4, 1, 2, 3]);
     assert_eq!(row.layout(), Some(Layout::Legacy16));
+    assert_eq!(row.large_place(), None);
     let rest = Rest::Legacy16 {
         environment_size: 1,
         read_index: 2,
@@ -55,6 +66,7 @@ fn p2_a_modern_header() {
     assert_eq!((row.offset(), row.param_count(), row.size()), (256, 2, 10));
     assert_eq!((row.name(), row.info_offset(), row.frame_size()), (3, 0, 6));
     assert_eq!((row.flags(), row.layout()), (4, Some(Layout::Modern12)));
+    assert_eq!(row.large_place(), None);
     let rest = Rest::Modern12 {
         loop_depth: 1,
         number_reg: 4,
@@ -71,7 +83,7 @@ fn p2_a_modern_header() {
 fn large_at(layout: Layout, mut file: Vec<u8>, place: usize) {
     file[place] = 9;
     let row = function::read_function(&file, layout, 0, 0).unwrap();
-    assert_eq!(row.offset(), 9);
+    assert_eq!((row.offset(), row.large_place()), (9, Some(place as u32)));
     let end = place + layout.large_header_size();
     let ground = function::function_ground(&file, layout, 0, 0).unwrap();
     assert_eq!((ground.header, ground.large), (0, Some(place)));
@@ -98,6 +110,7 @@ fn p5_large_headers_that_just_fit() {
         let file = flagged(layout, fits, place, 0);
         let table = function::read_functions(&file, layout, 0, 1).unwrap();
         assert_eq!((table.len(), table[0].info_offset()), (1, info));
+        assert_eq!(table[0].large_place(), Some(place));
         let cut = function::read_functions(&file[..fits - 1], layout, 0, 1);
         assert_eq!(refused(cut), (3, 0));
     }
@@ -207,9 +220,9 @@ fn a_marked_read_is_refused_as_the_other_is() {
 fn a_cut_handler_and_a_padding_past_the_end() {
     let mut file = [0; 64];
     file[48] = 2;
-    let functions = FunctionRow::rows(&[0, 0, 0, 0, 0, 0, 45, 0, 8, 0, 0, 0, 0, 0, 0, 0]);
+    let functions = [function_at(45, 8)];
     assert!(
-        parsing::read_handlers(&file, functions, 1)
+        parsing::read_handlers(&file, &functions, 1)
             .unwrap()
             .is_empty()
     );
@@ -393,7 +406,7 @@ fn refused_3_cut() {
 
 #[test]
 fn refused_4_leaves_every_row() {
-    let kept = FunctionRow::rows(&[7; 32]);
+    let kept = FunctionRow::rows(&[7; 2 * FunctionRow::WORDS]);
     let mut rows = [kept[0], kept[1]];
     let two = function::read_functions_into(&[0; 48], Layout::Legacy16, 0, 3, &mut rows);
     assert_eq!(refused(two), (4, 0));
@@ -681,9 +694,9 @@ fn handlers_that_functions_share() {
     for (i, handler) in file[8..].chunks_exact_mut(12).enumerate() {
         handler[..4].copy_from_slice(&(i as u32).to_le_bytes());
     }
-    let row = |flags| [0, 9, 0, 0, 0, 0, 4, 0, flags, 0, 0, 0, 0, 0, 0, 0];
-    let words = [row(8), row(0), row(8)].concat();
-    let functions = FunctionRow::rows(&words);
+    let mut functions = [8, 0, 8].map(|flags| function_at(4, flags));
+    functions.iter_mut().for_each(|row| row.set_id(9));
+    let functions = &functions;
     let handlers = parsing::read_handlers(&file, functions, 3).unwrap();
     assert_eq!(handlers.len(), 2000);
     assert_eq!((handlers[999].function(), handlers[999].start()), (0, 999));
@@ -862,7 +875,7 @@ fn rows_are_words() {
         HandlerRow::WORDS,
         TextRow::WORDS,
     ];
-    assert_eq!(sizes, [16, 4, 4, 2]);
+    assert_eq!(sizes, [17, 4, 4, 2]);
     assert_eq!(
         [ScopeRow::WORDS, NameRow::WORDS, CalleeRow::WORDS],
         [5, 1, 2]
@@ -903,6 +916,216 @@ fn a_refresh_is_a_fresh_read() {
             table,
             function::read_functions(&file, layout, 0, 3).unwrap()
         );
+    }
+}
+
+/// The words of P1 to P5 as they are in C, the last one of each with them, by a table and by the call for one function.
+#[test]
+fn worked_cases_word_by_word() {
+    const INLINE: u32 = 0xFFFF_FFFF;
+    let p1 = [0, 0, 256, 2, 10, 3, 0, 5, 4, 1, 2, 3, 0, 0, 0, 0, INLINE];
+    let p2 = [1, 0, 256, 2, 10, 3, 0, 6, 4, 1, 4, 5, 7, 8, 1, 0, INLINE];
+    let large = |layout: Layout, offset, info_offset, place| {
+        let mut words = [0; 17];
+        (words[0], words[2], words[6]) = (layout.into(), offset, info_offset);
+        words[16] = place;
+        words
+    };
+    let (legacy, modern) = (Layout::Legacy16, Layout::Modern12);
+    let mut p3 = flagged(legacy, 65_552 + 31, 65_552, 1);
+    let mut p4 = flagged(modern, 16_777_248 + 37, 16_777_248, 1);
+    (p3[65_552], p4[16_777_248]) = (7, 7);
+    for (layout, file, words) in [
+        (legacy, P1.to_vec(), p1),
+        (modern, P2.to_vec(), p2),
+        (legacy, p3, large(legacy, 7, 0, 65_552)),
+        (modern, p4, large(modern, 7, 16_777_288, 16_777_248)),
+        (legacy, flagged(legacy, 47, 16, 0), large(legacy, 0, 0, 16)),
+        (modern, flagged(modern, 49, 12, 0), large(modern, 0, 52, 12)),
+    ] {
+        let table = function::read_functions(&file, layout, 0, 1).unwrap();
+        assert_eq!(table.words(), words);
+        let row = function::read_function(&file, layout, 0, 0).unwrap();
+        assert_eq!((row, row.record()), (table[0], &words[..16]));
+        let place = words[16];
+        assert_eq!(row.large_place(), (place != INLINE).then_some(place));
+    }
+    assert_eq!(function::INLINE, INLINE);
+}
+
+/// The place is the one packed into the function's own header, whatever the large header's flags are; and it is that of
+/// each function by itself.
+#[test]
+fn each_row_has_its_own_place() {
+    for layout in LAYOUTS {
+        let (own, large) = (layout.header_size(), layout.large_header_size());
+        // Function 0 behind the table, 2 at byte 0, 3 in the table, 4 where the file ends; 1 has none.
+        let len = 5 * own + large + 9;
+        let places = [Some(5 * own + 3), None, Some(0), Some(7), Some(len - large)];
+        let mut file = vec![0; len];
+        for (header, place) in file.chunks_exact_mut(own).zip(places) {
+            if let Some(place) = place {
+                header.copy_from_slice(&flagged(layout, own, place as u32, 0));
+            }
+        }
+        for flags in [0, OVERFLOW] {
+            file[len - 1] = flags;
+            let table = function::read_functions(&file, layout, 0, 5).unwrap();
+            for ((row, place), id) in table.iter().zip(places).zip(0..) {
+                assert_eq!(row.large_place(), place.map(|place| place as u32));
+                let one = function::read_function(&file, layout, 0, id).unwrap();
+                let ground = function::function_ground(&file, layout, 0, id).unwrap();
+                assert_eq!((one, ground.large), (*row, place));
+            }
+            assert_eq!(table[4].is_overflowed(), flags == OVERFLOW);
+        }
+    }
+}
+
+/// A function that gets a large header has its place after the refresh, one that loses it has none; one whose large header
+/// moves has the new place, and one whose large header is edited keeps it. Rows that are not met keep their words.
+#[test]
+fn a_refresh_brings_the_place_up_to_date() {
+    for layout in LAYOUTS {
+        let own = layout.header_size();
+        let mut file = vec![0; 3 * own + 60];
+        let mut table = function::read_functions(&file, layout, 0, 3).unwrap();
+        let (place, flag) = (own, 2 * own - 1); // of function 1: the lowest byte of its offset, and its flags
+        let far = (3 * own) as u8;
+        let edits = [
+            (place, far, None),
+            (flag, OVERFLOW, Some(far)),
+            (place, far + 5, Some(far + 5)),
+            (far as usize + 5, 77, Some(far + 5)), // its offset, in the large header
+            (flag, 0, None),
+            (flag, OVERFLOW, Some(far + 5)),
+            (flag, 0x1F, None),
+        ];
+        for (at, byte, now) in edits {
+            let before = [table[0], table[2]];
+            file[at] = byte;
+            let again: Vec<u32> = table.refresh(&file, at..at + 1).unwrap().collect();
+            assert_eq!(again, [1]);
+            assert_eq!(table[1].large_place(), now.map(u32::from), "{layout} {at}");
+            assert_eq!([table[0], table[2]], before);
+            let fresh = function::read_functions(&file, layout, 0, 3).unwrap();
+            assert_eq!((&table, table.words()), (&fresh, fresh.words()));
+        }
+        // A refresh that is refused leaves the place too.
+        file[flag] = OVERFLOW;
+        assert_eq!(table.refresh(&file, flag..=flag).unwrap().len(), 1);
+        let kept = table[1];
+        assert_eq!(kept.large_place(), Some(u32::from(far) + 5));
+        file[place] = 0xFF;
+        assert_eq!(refused(table.refresh(&file, place..=place)), (2, 1));
+        assert_eq!(table[1], kept);
+    }
+}
+
+/// Bit 24 of a modern offset is no part of the place; of a legacy one it is, and is set once where info_offset has it too.
+#[test]
+fn bits_of_a_place() {
+    let modern = flagged(Layout::Modern12, 100, 1 << 24 | 40, 0);
+    let row = function::read_function(&modern, Layout::Modern12, 0, 0).unwrap();
+    assert_eq!(row.large_place(), Some(40));
+    let mut legacy = flagged(Layout::Legacy16, (3 << 16) + 71, 1 << 16 | 40, 3);
+    legacy[(3 << 16) + 40] = 9;
+    let row = function::read_function(&legacy, Layout::Legacy16, 0, 0).unwrap();
+    assert_eq!((row.large_place(), row.offset()), (Some((3 << 16) + 40), 9));
+}
+
+/// Whatever words are lent: a row that is not met keeps all of its words, so do the words behind the rows, and a call that
+/// is refused leaves every word.
+#[test]
+fn words_that_stay() {
+    for layout in LAYOUTS {
+        let own = layout.header_size();
+        // Function 1 of three has a large header behind the table.
+        let mut file = vec![0; 3 * own + 50];
+        let large = flagged(layout, own, 3 * own as u32, 0);
+        file[own..2 * own].copy_from_slice(&large);
+        let before: Vec<u32> = (0..3 * FunctionRow::WORDS as u32 + 5)
+            .map(|i| i + 900)
+            .collect();
+        let row = |words: &[u32], id: usize| {
+            words[id * FunctionRow::WORDS..][..FunctionRow::WORDS].to_vec()
+        };
+        let fresh = function::read_functions(&file, layout, 0, 3).unwrap();
+
+        let mut words = before.clone();
+        let rows = FunctionRow::rows_mut(&mut words);
+        let span = own..own + 1;
+        let again = function::refresh_functions(&file, layout, 0, 3, span, rows);
+        assert_eq!(again, Ok(1));
+        assert_eq!(row(&words, 0), row(&before, 0));
+        assert_eq!(row(&words, 1), row(fresh.words(), 1));
+        assert_eq!(
+            words[2 * FunctionRow::WORDS..],
+            before[2 * FunctionRow::WORDS..]
+        );
+
+        let mut words = before.clone();
+        let rows = FunctionRow::rows_mut(&mut words);
+        function::read_functions_into(&file, layout, 0, 2, rows).unwrap();
+        let read = 2 * FunctionRow::WORDS;
+        assert_eq!(words[..read], fresh.words()[..read]);
+        assert_eq!(words[read..], before[read..]);
+
+        // The large header is cut.
+        let mut words = before.clone();
+        let rows = FunctionRow::rows_mut(&mut words);
+        let cut = &file[..3 * own + 20];
+        let read = function::read_functions_into(cut, layout, 0, 3, rows).map(|rows| rows.len());
+        assert_eq!(refused(read), (3, 1));
+        let again = function::refresh_functions(cut, layout, 0, 3, .., rows);
+        assert_eq!((refused(again), words), ((3, 1), before));
+    }
+}
+
+/// So many words are as many rows as 17 goes into them: what a row less is lent is refused, by each call that is lent rows
+/// or given them. 16 words are no row.
+#[test]
+fn words_that_make_no_row() {
+    use bisquepond::sys::{
+        hbc_read_function, hbc_read_functions, hbc_read_handlers, hbc_refresh_functions,
+        hbc_why_no_handlers, hbc_write_functions,
+    };
+    const ROW: usize = FunctionRow::WORDS;
+    let file = [0; 64];
+    let (s, len) = (file.as_ptr(), file.len());
+    for words in 0..=4 * ROW {
+        let rows = (words / ROW) as u32;
+        for count in 0..=4 {
+            // Zeros are a good legacy row but for their number.
+            let mut lent: Vec<u32> = vec![0; words];
+            (lent.chunks_exact_mut(ROW).zip(0..)).for_each(|(row, id)| row[1] = id);
+            let (table, enough) = (lent.as_mut_ptr(), count <= rows);
+            let (mut total, mut handlers, mut buffer) = (0, 9, [7; 64]);
+            let (bytes, none) = (buffer.as_mut_ptr(), [0; 0].as_mut_ptr());
+            let codes = unsafe {
+                [
+                    hbc_read_functions(s, len, 0, 0, count, table, words),
+                    hbc_refresh_functions(s, len, 0, 0, count, 0, 64, table, words),
+                    hbc_write_functions(table, words, 0, 0, count, 64, bytes, 64),
+                    hbc_read_handlers(s, len, table, words, count, none, 0, &mut total),
+                    hbc_why_no_handlers(s, len, table, words, count, &mut handlers),
+                    hbc_read_function(s, len, 0, 0, 3, table, words),
+                ]
+            };
+            let told = |accepted: bool, answer, refusal: u64| match accepted {
+                true => u64::from(answer),
+                false => refusal << 32,
+            };
+            let expected = [
+                told(enough, count, 4),
+                told(enough, count, 4),
+                told(enough, 16 * count, 11),
+                told(enough, 0, 11),
+                told(count < rows, 1, 11), // the flag is clear
+                told(rows > 0, 1, 4),
+            ];
+            assert_eq!(codes, expected, "{words} words, {count} functions");
+        }
     }
 }
 
@@ -1040,7 +1263,7 @@ fn a_row_of_no_layout() {
         (2, None),
         (u32::MAX, None),
     ] {
-        let mut words = [5; 16];
+        let mut words = [5; FunctionRow::WORDS];
         words[0] = word;
         let row = FunctionRow::rows(&words)[0];
         assert_eq!(
@@ -1054,6 +1277,7 @@ fn a_row_of_no_layout() {
         };
         assert_eq!(row.fields().count(), 8 + own);
         let shown = format!("{row:?}");
+        assert!(shown.ends_with(", large_place: Some(5) }"), "{shown}");
         assert_eq!(shown.contains("Modern12"), layout == Some(Layout::Modern12));
         assert_eq!(
             shown.contains(&format!("no_such_layout: {word}")),

@@ -274,13 +274,20 @@ fn words_and_numbers_have_the_same_names() {
 
     // Each field's word has its number in a row that counts.
     for layout in [Layout::Legacy16, Layout::Modern12] {
-        let mut words: Vec<u32> = (0..16).collect();
+        let mut words: Vec<u32> = (0..FunctionRow::WORDS as u32).collect();
         words[0] = layout.into();
-        for (name, at) in FunctionRow::rows(&words)[0].fields() {
+        let row = FunctionRow::rows(&words)[0];
+        for (name, at) in row.fields() {
             assert_eq!(c[&format!("FUNCTION_{}", name.to_uppercase())], at);
         }
+        assert_eq!(row.large_place(), Some(c["FUNCTION_LARGE_PLACE"]));
+        assert_eq!(row.record().len() as u32, c["FUNCTION_LARGE_PLACE"]);
     }
     assert_eq!(c["FUNCTION_LAYOUT"], 0);
+    assert_eq!(c["FUNCTION_LARGE_PLACE"] + 1, c["FUNCTION_WORDS"]);
+    assert_eq!(c["INLINE"], function::INLINE);
+    // No place is that far.
+    assert!(c["INLINE"] > c["LIMIT"]);
     let row: table::StringRow = counting();
     assert_eq!(
         (c["STRING_START"], c["STRING_LENGTH"]),

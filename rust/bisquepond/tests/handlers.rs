@@ -46,9 +46,12 @@ fn refused<T: std::fmt::Debug>(answer: Result<T, Refusal>) -> (u32, u32) {
     (refusal.number, refusal.place)
 }
 
+/// The words of a function's row.
+const ROW: usize = FunctionRow::WORDS;
+
 /// A function whose other words are no use to anybody.
-fn function(info_offset: u32, flags: u32) -> [u32; 16] {
-    let mut row = [u32::MAX; 16];
+fn function(info_offset: u32, flags: u32) -> [u32; ROW] {
+    let mut row = [u32::MAX; ROW];
     (row[6], row[8]) = (info_offset, flags);
     row
 }
@@ -134,15 +137,15 @@ fn worked_cases() {
         (counting(76, 2), 45, 8, Why::Shown(2)),
     ];
     for (file, info_offset, flags, why) in cases {
-        let mut words = [9; 16];
+        let mut words = [9; ROW];
         (words[6], words[8]) = (info_offset, flags);
         let answer = parsing::why_no_handlers(&file, FunctionRow::rows(&words), 0);
         assert_eq!(answer, Ok(why), "info_offset {info_offset}");
     }
     // Rows are whole in the crate's own call: words that make none are lent to the one in C.
-    let (file, lent, mut handlers) = (counting(76, 2), [8u32; 31], 5);
-    let (bytes, words) = (file.as_ptr(), lent.as_ptr());
-    let code = unsafe { sys::hbc_why_no_handlers(bytes, 76, words, 31, 1, &mut handlers) };
+    let (file, lent, mut handlers) = (counting(76, 2), [8u32; 2 * ROW - 1], 5);
+    let (bytes, words) = (file.as_ptr(), (lent.as_ptr(), lent.len()));
+    let code = unsafe { sys::hbc_why_no_handlers(bytes, 76, words.0, words.1, 1, &mut handlers) };
     assert_eq!((code, handlers), (11 << 32, 5));
 }
 
@@ -169,7 +172,7 @@ fn the_most_handlers() {
 fn no_such_row_and_too_long_a_file() {
     let (file, words) = (file(), words());
     for lent in [0, 1, 15] {
-        let functions = FunctionRow::rows(&words[..lent * 16]);
+        let functions = FunctionRow::rows(&words[..lent * ROW]);
         for id in [lent as u32, 16, u32::MAX] {
             assert_eq!(
                 refused(parsing::why_no_handlers(&file, functions, id)),

@@ -5,6 +5,10 @@ use bisquepond::{Layout, Reason, Refusal, Row};
 
 const LAYOUTS: [Layout; 2] = [Layout::Legacy16, Layout::Modern12];
 
+/// The words of a row, and the last of them, which no writer looks at.
+const ROW: usize = FunctionRow::WORDS;
+const PLACE: usize = ROW - 1;
+
 const P1: [u8; 16] = [0, 1, 0, 4, 0x0A, 0x80, 1, 0, 0, 0, 0, 0x0A, 1, 2, 3, 4];
 const P2: [u8; 12] = [0, 1, 0, 0x44, 0x0A, 0xC0, 0, 0x29, 6, 7, 0x48, 4];
 
@@ -15,26 +19,42 @@ fn refused<T: std::fmt::Debug>(answer: Result<T, Refusal>) -> (Reason, u32) {
 
 /// So many rows that are 0 but for layout and number.
 fn empty(layout: Layout, count: u32) -> Vec<FunctionRow> {
-    let mut words = Vec::new();
-    for id in 0..count {
-        words.extend([u32::from(layout), id]);
-        words.extend([0; 14]);
-    }
-    FunctionRow::rows(&words).to_vec()
+    let row = |id: u32| {
+        let mut words = [0; ROW];
+        (words[0], words[1], words[PLACE]) = (layout.into(), id, function::INLINE);
+        FunctionRow::rows(&words)[0]
+    };
+    (0..count).map(row).collect()
 }
 
 /// The same row with another word.
 fn with(row: &FunctionRow, word: usize, value: u32) -> FunctionRow {
-    let mut words = [0; 16];
-    words[0] = row.layout().unwrap().into();
-    for (field, (_, value)) in words[1..].iter_mut().zip(row.fields()) {
-        *field = value;
-    }
+    let place = row.large_place().unwrap_or(function::INLINE);
+    let mut words = [row.record(), &[place]].concat();
     words[word] = value;
     FunctionRow::rows(&words)[0]
 }
 
-/// Writes into bytes that hold 7, and sees that the rows are read back.
+/// What of rows is written, and read back.
+fn records(rows: &[FunctionRow]) -> Vec<&[u32]> {
+    rows.iter().map(FunctionRow::record).collect()
+}
+
+/// The same rows, as they are once they are written with this place for large headers: with their places there.
+fn placed(rows: &[FunctionRow], layout: Layout, large: usize) -> Vec<FunctionRow> {
+    let mut next = large.next_multiple_of(4);
+    let row = |row: &FunctionRow| match row.goes_inline() {
+        true => with(row, PLACE, function::INLINE),
+        false => {
+            let place = next;
+            next += layout.large_header_size().next_multiple_of(4);
+            with(row, PLACE, place as u32)
+        }
+    };
+    rows.iter().map(row).collect()
+}
+
+/// Writes into bytes that hold 7, and sees that the rows are read back, with the places of their large headers.
 fn written(
     rows: &[FunctionRow],
     layout: Layout,
@@ -45,7 +65,7 @@ fn written(
     let mut buffer = vec![7; len];
     let end = function::write_functions_into(rows, layout, start, large, &mut buffer).unwrap();
     let table = function::read_functions(&buffer[..end], layout, start, rows.len() as u32).unwrap();
-    assert_eq!(table[..], *rows);
+    assert_eq!(table[..], placed(rows, layout, large));
     buffer
 }
 
@@ -238,7 +258,7 @@ fn refusals_in_their_order() {
         }
     }
     // Whatever a legacy row has behind its fields is 0.
-    for word in 12..16 {
+    for word in 12..PLACE {
         let bad = with(&empty(Layout::Legacy16, 1)[0], word, 1);
         let answer = function::write_functions_into(&[bad], Layout::Legacy16, 0, 16, &mut [7; 60]);
         assert_eq!(refused(answer), (Reason::BadRow, 0));
@@ -269,7 +289,7 @@ fn a_vector_grows_as_it_must() {
             assert!(bytes[..kept].iter().all(|&byte| byte == 7));
             assert!(bytes[kept..20].iter().all(|&byte| byte == 0));
             let table = function::read_functions(&bytes, layout, 20, 9).unwrap();
-            assert_eq!(table[..], rows[..]);
+            assert_eq!(table[..], placed(&rows, layout, place));
             let mut again = vec![0; bytes.len()];
             assert_eq!(table.write_into(place, &mut again), Ok(end));
 
@@ -383,7 +403,111 @@ fn every_field_by_its_name() {
     row.set_rest(rest);
     written(&[row], Layout::Legacy16, 0, 16, 16);
     // A row of no layout has no place.
-    assert!(!FunctionRow::rows(&[7; 16])[0].goes_inline());
+    assert!(!FunctionRow::rows(&[7; ROW])[0].goes_inline());
+}
+
+/// Whatever the last word of a row is, the writer answers the same and leaves the same bytes, refused too; and what is read
+/// back has the place where the large header went.
+#[test]
+fn the_last_word_is_not_looked_at() {
+    for layout in LAYOUTS {
+        let own = layout.header_size();
+        let mut rows = empty(layout, 4);
+        rows[1].set_size(1 << 20);
+        rows[3].set_name(1 << 20);
+        let large = 4 * own + 1;
+        function::renew_info_offsets(&mut rows, large);
+        let first = large.next_multiple_of(4) as u32;
+        let second = first + layout.large_header_size().next_multiple_of(4) as u32;
+        let bytes = written(&rows, layout, 0, large, 200);
+        let again = function::read_functions(&bytes, layout, 0, 4).unwrap();
+        let places = [None, Some(first), None, Some(second)];
+        assert!(again.iter().map(FunctionRow::large_place).eq(places));
+
+        // 0, its own place, another's, none, and numbers that are no places.
+        let words = [0, 1, first, second, 1 << 30, u32::MAX - 1, function::INLINE];
+        for word in words {
+            for only in [None, Some(0), Some(1), Some(3)] {
+                let mut other = rows.clone();
+                for (id, row) in other.iter_mut().enumerate() {
+                    if only.is_none_or(|only| only == id) {
+                        *row = with(row, PLACE, word);
+                        assert_eq!(row.goes_inline(), rows[id].goes_inline());
+                    }
+                }
+                assert_eq!(written(&other, layout, 0, large, 200), bytes);
+                let mut vector = Vec::new();
+                let end = function::write_functions(&other, layout, 0, large, &mut vector).unwrap();
+                assert_eq!(vector[..own], bytes[..own]);
+                assert_eq!(end, vector.len());
+                function::renew_info_offsets(&mut other, large);
+                assert_eq!(records(&other), records(&rows));
+
+                // What is refused is refused the same.
+                let mut buffer = vec![7; end - 1];
+                let short = function::write_functions_into(&other, layout, 0, large, &mut buffer);
+                assert_eq!(refused(short), (Reason::TooFewRows, 0));
+                other[2].set_flags(256);
+                let bad = function::write_functions_into(&other, layout, 0, large, &mut buffer);
+                assert_eq!(refused(bad), (Reason::BadRow, 2));
+                assert!(buffer.iter().all(|&byte| byte == 7));
+            }
+        }
+    }
+}
+
+/// A table that is read, written with its large headers elsewhere, and read: the records stay, the places are the new ones.
+#[test]
+fn a_table_moves_its_large_headers() {
+    for layout in LAYOUTS {
+        let own = layout.header_size();
+        let mut rows = empty(layout, 3);
+        rows[0].set_frame_size(1_000);
+        rows[2].set_frame_size(1_000);
+        let near = 3 * own;
+        function::renew_info_offsets(&mut rows, near);
+        let file = written(&rows, layout, 0, near, 200);
+        let table = function::read_functions(&file, layout, 0, 3).unwrap();
+        let mut rows = table.to_vec();
+        for far in [500, 300] {
+            function::renew_info_offsets(&mut rows, far);
+            let mut file = file.clone();
+            function::write_functions(&rows, layout, 0, far, &mut file).unwrap();
+            let again = function::read_functions(&file, layout, 0, 3).unwrap();
+            assert_eq!(records(&again), records(&rows));
+            let moved = far as u32 + layout.large_header_size().next_multiple_of(4) as u32;
+            let places = [Some(far as u32), None, Some(moved)];
+            assert!(again.iter().map(FunctionRow::large_place).eq(places));
+            assert!(again[1] == rows[1] && again[0] != rows[0]);
+        }
+    }
+    // A row made by hand has no place, and is read back as it was made where it goes inline.
+    let mut row = FunctionRow::default();
+    row.set_size(77);
+    let bytes = written(&[row], Layout::Legacy16, 0, 16, 16);
+    let again = function::read_function(&bytes, Layout::Legacy16, 0, 0);
+    assert_eq!((again, row.large_place()), (Ok(row), None));
+    // Fields that are set leave the place as it was.
+    let mut legacy = vec![0; 47];
+    (legacy[0], legacy[15]) = (16, 0x20);
+    let mut row = function::read_function(&legacy, Layout::Legacy16, 0, 0).unwrap();
+    row.set_flags(1);
+    row.set_rest(Rest::Legacy16 {
+        environment_size: u32::MAX,
+        read_index: u32::MAX,
+        write_index: u32::MAX,
+    });
+    assert_eq!(row.large_place(), Some(16));
+    row.set_rest(Rest::Modern12 {
+        loop_depth: u32::MAX,
+        number_reg: u32::MAX,
+        non_ptr_reg: u32::MAX,
+        read_cache: u32::MAX,
+        write_cache: u32::MAX,
+        new_object: u32::MAX,
+        private_name: u32::MAX,
+    });
+    assert_eq!(row.large_place(), Some(16));
 }
 
 /// A word for each refusal of a writer, for whoever reads it.

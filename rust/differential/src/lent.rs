@@ -1,6 +1,9 @@
 //! Tables and buffers that are lent to a call: every word can be seen to have been written or to have stayed, also those
 //! behind the lent ones.
 
+use bisquepond::function::FunctionRow;
+use bisquepond::Row as _;
+
 use crate::case::said;
 
 /// A word of a lent table, and what it holds before the call.
@@ -26,8 +29,8 @@ impl Word for u64 {
     }
 }
 
-/// Words behind the lent ones, which no call may touch.
-pub const BEHIND: usize = 16;
+/// Words behind the lent ones, which no call may touch: a row of the longest.
+pub const BEHIND: usize = FunctionRow::WORDS;
 
 /// These words, then as many more as are not written where `len` are lent, and those behind.
 pub fn lent<T: Word>(mut words: Vec<T>, len: usize) -> Vec<T> {

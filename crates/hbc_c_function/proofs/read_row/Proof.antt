@@ -44,8 +44,8 @@ returns-3 c = told-by {b = refusedAt 4 0} (past _ _ _ _ (omega arith) (past _ _ 
 read-function-requires : tie.Need-read-function-requires
 read-function-requires c κs = search needs
 
-enum-known-made : tie.Need-enum-known-made
-enum-known-made c = search needs
+enum-known-own : tie.Need-enum-known-own
+enum-known-own c = search needs
 
 row-words-requires : tie.Need-row-words-requires
 row-words-requires c κs = search needs
@@ -66,7 +66,7 @@ same-length : tie.Need-same-length
 same-length c = search needs
 
 returns-4 : tie.Need-returns-4
-returns-4 c = told-by {b = gives tt} (row-read _ _ _ _ _ (omega arith) (omega arith) (omega arith) (sym (ap saysFunction (c .before .before .before .before .before .before .before .made .given .1)) ∙ (c .before .before .before .before .before .before .before .before .before .read-function .ensures)) (c .before .before .before .before .before .row-words .ensures) (c .before .before .put-row .ensures)) refl refl
+returns-4 c = told-by {b = gives tt} (row-read _ _ _ _ _ (omega arith) (omega arith) (omega arith) (sym (ap saysFunction (c .before .before .before .before .before .before .before .own .given .1)) ∙ (c .before .before .before .before .before .before .before .before .before .read-function .ensures)) (c .before .before .before .before .before .row-words .ensures) (c .before .before .put-row .ensures)) refl refl
 
 returns-5 : tie.Need-returns-5
 returns-5 c = told-by {b = refuses (c .before .before .r .given .0 .0)} (row-kept _ _ _ _ _ (omega arith) (omega arith) (omega arith) (sym (ap saysFunction (c .before .before .r .given .1)) ∙ (c .before .before .before .before .read-function .ensures))) refl (c .code4 .ensures)
@@ -85,7 +85,7 @@ read-row-spec =
     code-requires-3
     returns-3
     read-function-requires
-    enum-known-made
+    enum-known-own
     row-words-requires
     slice-aggregate-put-row
     put-row-requires

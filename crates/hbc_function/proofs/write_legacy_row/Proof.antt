@@ -21,6 +21,24 @@ add-at c = let h = size-times Legacy16 (c .before .before .before .before .befor
 legacy-row-requires : tie.Need-legacy-row-requires
 legacy-row-requires c κs = search needs
 
+mul-to : tie.Need-mul-to
+mul-to c = search needs
+
+add-put-row : tie.Need-add-put-row
+add-put-row c = search needs
+
+mul-put-row : tie.Need-mul-put-row
+mul-put-row c = search needs
+
+sub-put-row : tie.Need-sub-put-row
+sub-put-row c = search needs
+
+part-put-row-start : tie.Need-part-put-row-start
+part-put-row-start c = search needs
+
+part-put-row-end : tie.Need-part-put-row-end
+part-put-row-end c = search needs
+
 slice-aggregate-put-row : tie.Need-slice-aggregate-put-row
 slice-aggregate-put-row c = search needs
 
@@ -31,7 +49,7 @@ same-length : tie.Need-same-length
 same-length c = search needs
 
 returns : tie.Need-returns
-returns c = row-by _ Legacy16 _ _ _ (c .before .before .before .before .before .before .header-size .ensures) (c .before .before .before .before .before .legacy-row .ensures) (c .before .before .before .before .before .before .before .before .is-plain .ensures (c .before .before .before .before .before .before .before .if1 .taken)) (c .before .before .put-row .ensures)
+returns c = row-by _ Legacy16 _ _ _ (omega arith) (c .before .before .before .before .before .before .header-size .ensures) (c .before .before .before .before .before .legacy-row .ensures) (c .before .before .before .before .before .before .before .before .is-plain .ensures (c .before .before .before .before .before .before .before .if1 .taken)) (c .before .before .put-row .ensures)
 
 write-row-requires : tie.Need-write-row-requires
 write-row-requires c κs = search needs
@@ -51,6 +69,12 @@ write-legacy-row-spec =
     mul-at
     add-at
     legacy-row-requires
+    mul-to
+    add-put-row
+    mul-put-row
+    sub-put-row
+    part-put-row-start
+    part-put-row-end
     slice-aggregate-put-row
     put-row-requires
     same-length

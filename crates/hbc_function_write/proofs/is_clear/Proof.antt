@@ -1,8 +1,8 @@
-use Prim.Native.Nat.{ℕ, _+_, _-_, _*_, _≤_, _<_}
+use Prim.Native.Nat.{_-_, _/_}
 use native.Mathlib.Omega.{arith}
 use borrow.Author.Needs.{needs}
 use Rattle.hbc_rows.specs.Rows.{rowAt}
-use Rattle.hbc_function_record.specs.Row.{width}
+use Rattle.hbc_function_record.specs.Row.{width, recordWidth}
 use Rattle.hbc_function_write.proofs.Plains.{Clearing, clearing-first, clearing-more, clearing-done}
 use Rattle.hbc_function_write.proofs.is_clear.Statement.{statement}
 use Rattle.hbc_function_write.proofs.is_clear.Tie as tie
@@ -11,7 +11,7 @@ abbrev Inv-loop : tie.InvT-loop
 Inv-loop rows id masks at set₀ k₀ set k = Clearing (rowAt width rows id) masks k set
 
 abbrev μ-loop : tie.MeasureT-loop
-μ-loop rows id masks at set₀ k₀ set k = 8 - k
+μ-loop rows id masks at set₀ k₀ set k = recordWidth / 2 - k
 
 mul-at : tie.Need-mul-at Inv-loop μ-loop
 mul-at c = omega arith
@@ -41,7 +41,7 @@ loop-less : tie.Need-loop-less Inv-loop μ-loop
 loop-less c = omega (arith, c .before .before .loop .inv .within)
 
 loop-again : tie.Need-loop-again Inv-loop μ-loop
-loop-again c = clearing-more (c .before .before .before .before .args .rows .now) (c .before .before .before .before .args .id) (λ j. omega (arith, c .before .before .before .shared-slice-known .given j)) (c .before .before .loop .inv) (c .before .loop-test .taken) (c .pair .ensures)
+loop-again c = clearing-more (c .before .before .before .before .args .rows .now) (c .before .before .before .before .args .id) (λ j. omega (arith, c .before .before .before .shared-slice-known .given j)) (c .before .before .loop .inv) (omega (arith, c .before .loop-test .taken)) (c .pair .ensures)
 
 returns : tie.Need-returns Inv-loop μ-loop
 returns c = clearing-done (c .before .loop .inv) (omega arith)

@@ -1,205 +1,47 @@
-use Rattle.hbc_function_write.proofs.Plans.{row-listed}
+use mathlib.Core.Path.{refl}
+use native.Mathlib.Omega.{arith}
+use Rattle.hbc_function_write.proofs.Plans.{row-copied}
 use borrow.Author.Needs.{needs}
 use Rattle.hbc_function_write.proofs.row_at.Statement.{statement}
 use Rattle.hbc_function_write.proofs.row_at.Tie as tie
 
-mul-a : tie.Need-mul-a
-mul-a c = search needs
+mul-at : tie.Need-mul-at
+mul-at c = search needs
 
-mul-t4 : tie.Need-mul-t4
-mul-t4 c = search needs
+slice-aggregate-put-row : tie.Need-slice-aggregate-put-row
+slice-aggregate-put-row c = search needs
 
-shared-slice-read-t6 : tie.Need-shared-slice-read-t6
-shared-slice-read-t6 c = search needs
+add-put-row : tie.Need-add-put-row
+add-put-row c = search needs
 
-add-t7 : tie.Need-add-t7
-add-t7 c = search needs
+mul-put-row : tie.Need-mul-put-row
+mul-put-row c = search needs
 
-mul-t8 : tie.Need-mul-t8
-mul-t8 c = search needs
+sub-put-row : tie.Need-sub-put-row
+sub-put-row c = search needs
 
-shared-slice-read-t10 : tie.Need-shared-slice-read-t10
-shared-slice-read-t10 c = search needs
+part-put-row-start : tie.Need-part-put-row-start
+part-put-row-start c = search needs
 
-add-t11 : tie.Need-add-t11
-add-t11 c = search needs
+part-put-row-end : tie.Need-part-put-row-end
+part-put-row-end c = search needs
 
-mul-t12 : tie.Need-mul-t12
-mul-t12 c = search needs
-
-shared-slice-read-t14 : tie.Need-shared-slice-read-t14
-shared-slice-read-t14 c = search needs
-
-add-t15 : tie.Need-add-t15
-add-t15 c = search needs
-
-mul-t16 : tie.Need-mul-t16
-mul-t16 c = search needs
-
-shared-slice-read-t18 : tie.Need-shared-slice-read-t18
-shared-slice-read-t18 c = search needs
-
-add-t19 : tie.Need-add-t19
-add-t19 c = search needs
-
-mul-t20 : tie.Need-mul-t20
-mul-t20 c = search needs
-
-shared-slice-read-t22 : tie.Need-shared-slice-read-t22
-shared-slice-read-t22 c = search needs
-
-add-t23 : tie.Need-add-t23
-add-t23 c = search needs
-
-mul-t24 : tie.Need-mul-t24
-mul-t24 c = search needs
-
-shared-slice-read-t26 : tie.Need-shared-slice-read-t26
-shared-slice-read-t26 c = search needs
-
-add-t27 : tie.Need-add-t27
-add-t27 c = search needs
-
-mul-t28 : tie.Need-mul-t28
-mul-t28 c = search needs
-
-shared-slice-read-t30 : tie.Need-shared-slice-read-t30
-shared-slice-read-t30 c = search needs
-
-add-t31 : tie.Need-add-t31
-add-t31 c = search needs
-
-mul-t32 : tie.Need-mul-t32
-mul-t32 c = search needs
-
-shared-slice-read-t34 : tie.Need-shared-slice-read-t34
-shared-slice-read-t34 c = search needs
-
-add-t35 : tie.Need-add-t35
-add-t35 c = search needs
-
-mul-t36 : tie.Need-mul-t36
-mul-t36 c = search needs
-
-shared-slice-read-t38 : tie.Need-shared-slice-read-t38
-shared-slice-read-t38 c = search needs
-
-add-t39 : tie.Need-add-t39
-add-t39 c = search needs
-
-mul-t40 : tie.Need-mul-t40
-mul-t40 c = search needs
-
-shared-slice-read-t42 : tie.Need-shared-slice-read-t42
-shared-slice-read-t42 c = search needs
-
-add-t43 : tie.Need-add-t43
-add-t43 c = search needs
-
-mul-t44 : tie.Need-mul-t44
-mul-t44 c = search needs
-
-shared-slice-read-t46 : tie.Need-shared-slice-read-t46
-shared-slice-read-t46 c = search needs
-
-add-t47 : tie.Need-add-t47
-add-t47 c = search needs
-
-mul-t48 : tie.Need-mul-t48
-mul-t48 c = search needs
-
-shared-slice-read-t50 : tie.Need-shared-slice-read-t50
-shared-slice-read-t50 c = search needs
-
-add-t51 : tie.Need-add-t51
-add-t51 c = search needs
-
-mul-t52 : tie.Need-mul-t52
-mul-t52 c = search needs
-
-shared-slice-read-t54 : tie.Need-shared-slice-read-t54
-shared-slice-read-t54 c = search needs
-
-add-t55 : tie.Need-add-t55
-add-t55 c = search needs
-
-mul-t56 : tie.Need-mul-t56
-mul-t56 c = search needs
-
-shared-slice-read-t58 : tie.Need-shared-slice-read-t58
-shared-slice-read-t58 c = search needs
-
-add-t59 : tie.Need-add-t59
-add-t59 c = search needs
-
-mul-t60 : tie.Need-mul-t60
-mul-t60 c = search needs
-
-shared-slice-read-t62 : tie.Need-shared-slice-read-t62
-shared-slice-read-t62 c = search needs
-
-add-t63 : tie.Need-add-t63
-add-t63 c = search needs
-
-mul-t64 : tie.Need-mul-t64
-mul-t64 c = search needs
-
-shared-slice-read-t66 : tie.Need-shared-slice-read-t66
-shared-slice-read-t66 c = search needs
+put-row-requires : tie.Need-put-row-requires
+put-row-requires c κs = search needs
 
 returns : tie.Need-returns
-returns c = row-listed _ _ (c .before .before .before .before .before .before .before .before .before .before .before .before .before .before .before .before .pre)
+returns c = row-copied _ _ _ (omega arith) refl refl (c .before .put-row .ensures)
 
 pub row-at-spec : {M : Type 1} → statement M
 row-at-spec =
     tie.close
     (tie.spec
-    mul-a
-    mul-t4
-    shared-slice-read-t6
-    add-t7
-    mul-t8
-    shared-slice-read-t10
-    add-t11
-    mul-t12
-    shared-slice-read-t14
-    add-t15
-    mul-t16
-    shared-slice-read-t18
-    add-t19
-    mul-t20
-    shared-slice-read-t22
-    add-t23
-    mul-t24
-    shared-slice-read-t26
-    add-t27
-    mul-t28
-    shared-slice-read-t30
-    add-t31
-    mul-t32
-    shared-slice-read-t34
-    add-t35
-    mul-t36
-    shared-slice-read-t38
-    add-t39
-    mul-t40
-    shared-slice-read-t42
-    add-t43
-    mul-t44
-    shared-slice-read-t46
-    add-t47
-    mul-t48
-    shared-slice-read-t50
-    add-t51
-    mul-t52
-    shared-slice-read-t54
-    add-t55
-    mul-t56
-    shared-slice-read-t58
-    add-t59
-    mul-t60
-    shared-slice-read-t62
-    add-t63
-    mul-t64
-    shared-slice-read-t66
+    mul-at
+    slice-aggregate-put-row
+    add-put-row
+    mul-put-row
+    sub-put-row
+    part-put-row-start
+    part-put-row-end
+    put-row-requires
     returns)

@@ -16,12 +16,20 @@ use crate::lent::{copied, Answer, Word};
 use crate::meter;
 use crate::search::last;
 
-/// The words of a row, and two of them.
+/// The words of a row, and three of them.
 pub const ROW: usize = FunctionRow::WORDS;
 pub const INFO_OFFSET: usize = 6;
 pub const FLAGS: usize = 8;
+pub const PLACE: usize = 16;
+
+/// The words of a record: those of a row that the Rust has too. Behind them stands the place.
+pub const RECORD: usize = PLACE;
 
 pub type Row = [u32; ROW];
+pub type Record = [u32; RECORD];
+
+/// The last word of a row that was read from no large header.
+pub const INLINE: u32 = u32::MAX;
 
 #[derive(Clone, Copy, PartialEq, Eq, Debug)]
 pub enum Op {
@@ -86,7 +94,7 @@ impl Layout {
     }
 
     /// The packed place of a header, if it is flagged. The Rust hands none back; this is
-    /// written from docs/FORMAT.md, section 3.3.
+    /// written from docs/FORMAT.md, section 3.3, and the request's sentences.
     pub fn place(self, header: &[u8]) -> Option<u64> {
         let word = |at: usize| u64::from_le_bytes(header[at..at + 8].try_into().unwrap());
         let offset = word(0) & ((1 << 25) - 1);
@@ -96,6 +104,15 @@ impl Layout {
         Some(match self {
             Layout::Legacy => (word(8) & ((1 << 25) - 1)) << 16 | offset,
             Layout::Modern => (word(0) >> 46 & 0xFF) << 24 | offset & 0xFF_FFFF,
+        })
+    }
+
+    /// The last word of a function's row, by its header: the place of its large header, or 2^32 - 1. Of a function that can
+    /// be read the place is in the file, which has at most 2^30 bytes, so that it is never taken for the other.
+    pub fn last_word(self, header: &[u8]) -> u32 {
+        self.place(header).map_or(INLINE, |place| {
+            assert!(place < LIMIT as u64, "a large header past 2^30 was read");
+            place as u32
         })
     }
 
@@ -135,8 +152,8 @@ pub struct Case<'a> {
     pub table: &'a [u32],
 }
 
-/// A row by the Rust's header of a function.
-pub fn row(header: &FunctionHeader) -> Row {
+/// The record by the Rust's header of a function.
+pub fn record(header: &FunctionHeader) -> Record {
     let words: &[u32] = match header {
         FunctionHeader::Legacy(h) => &[
             0,
@@ -171,23 +188,30 @@ pub fn row(header: &FunctionHeader) -> Row {
             h.private_name_cache_size.into(),
         ],
     };
-    let mut row = [0; ROW];
-    row[..words.len()].copy_from_slice(words);
+    let mut record = [0; RECORD];
+    record[..words.len()].copy_from_slice(words);
+    record
+}
+
+/// The row of a record and its last word.
+pub fn row(record: &Record, last: u32) -> Row {
+    let mut row = [last; ROW];
+    row[..RECORD].copy_from_slice(record);
     row
 }
 
 /// The Rust's own loop over `count` functions from a start within the file.
-pub fn parsed(file: &[u8], layout: Layout, start: usize, count: u32) -> Published<Vec<Row>> {
+pub fn parsed(file: &[u8], layout: Layout, start: usize, count: u32) -> Published<Vec<Record>> {
     let mut header = empty_header(layout.published());
     header.function_count = count;
     let mut reader = ByteReader::new(file);
     reader.seek(start).expect("a start within the file");
     let headers = parse_function_headers(&mut reader, &header)?;
-    Ok(headers.iter().map(row).collect())
+    Ok(headers.iter().map(record).collect())
 }
 
-/// Its rows, or the number of its refusal.
-fn published(file: &[u8], layout: Layout, start: usize, count: u32) -> Result<Vec<Row>, u32> {
+/// Its records, or the number of its refusal.
+fn published(file: &[u8], layout: Layout, start: usize, count: u32) -> Result<Vec<Record>, u32> {
     parsed(file, layout, start, count).map_err(|error| match error {
         Error::Parse(text) if text.starts_with("seek out of range") => 2,
         Error::Parse(text) if text.starts_with("unexpected end of file") => 3,
@@ -195,29 +219,29 @@ fn published(file: &[u8], layout: Layout, start: usize, count: u32) -> Result<Ve
     })
 }
 
-/// A fresh read of the whole table by the Rust. Its refusal names no function: the place is the greatest count that it
-/// still reads.
+/// A fresh read of the whole table: records by the Rust, the last words by the headers. The Rust's refusal names no
+/// function: the place is the greatest count that it still reads.
 pub fn fresh(file: &[u8], layout: Layout, start: usize, count: u32) -> Result<Vec<Row>, Refusal> {
-    published(file, layout, start, count).map_err(|number| {
+    let records = published(file, layout, start, count).map_err(|number| {
         let fit = (file.len() - start) / layout.own();
         let reads = |count| published(file, layout, start, count).is_ok();
         (number, last(0..count.min(fit as u32 + 1), 0, reads))
-    })
+    })?;
+    let headers = file[start..].chunks_exact(layout.own());
+    let rows = records.iter().zip(headers);
+    Ok(rows.map(|(record, header)| row(record, layout.last_word(header))).collect())
 }
 
 /// One function by the Rust: a table of one, at its header.
 pub fn one(file: &[u8], layout: Layout, start: usize, id: u32) -> Result<Row, Refusal> {
-    if layout.header(file, start, id).is_none() {
-        return Err((3, id));
-    }
-    let at = start + id as usize * layout.own();
-    let rows = published(file, layout, at, 1).map_err(|number| (number, id))?;
-    let mut row = rows[0];
+    let (at, header) = layout.header(file, start, id).ok_or((3, id))?;
+    let records = published(file, layout, at, 1).map_err(|number| (number, id))?;
+    let mut row = row(&records[0], layout.last_word(header));
     row[1] = id;
     Ok(row)
 }
 
-/// What is right: rows and their refusals by the Rust, all else by docs/FORMAT.md. The rows are written into `table`.
+/// What is right: records and their refusals by the Rust, all else by docs/FORMAT.md. The rows are written into `table`.
 pub fn right(case: &Case, table: &mut [u32]) -> Result<u32, Refusal> {
     let Case { op, file, start, count, low, high, .. } = *case;
     let layout = *LAYOUTS.get(case.layout as usize).ok_or((12, 0))?;

@@ -7,7 +7,7 @@ use bisquepond::Row as _;
 use published::format::FunctionHeader;
 use published::io::ByteReader;
 
-use super::case::{parsed, Layout, Row, ROW};
+use super::case::{parsed, Layout, Record, INLINE, PLACE, RECORD, ROW};
 use crate::case::{code, said, Compared, Difference, Words};
 use crate::differences::{bounded, row, text, told, zeros, End, ABORT};
 use crate::lent::Reserved;
@@ -15,13 +15,14 @@ use crate::run::Run;
 
 pub fn listed(run: &mut Run) -> Compared {
     lent(run)?;
+    placed(run)?;
     refused(run)?;
     memory(run)?;
     longer(run)
 }
 
-/// The Rust's rows of a table that begins at byte 0.
-fn legacy(file: &[u8], count: u32) -> Result<Vec<Row>, String> {
+/// The Rust's records of a table that begins at byte 0.
+fn legacy(file: &[u8], count: u32) -> Result<Vec<Record>, String> {
     text(parsed(file, Layout::Legacy, 0, count))
 }
 
@@ -43,7 +44,7 @@ fn left(rows: usize) -> Vec<u32> {
 
 fn lent(run: &mut Run) -> Compared {
     row(run, "one header, no rows")
-        .rust(legacy(&[0; 16], 1), Ok(vec![[0; ROW]]))?
+        .rust(legacy(&[0; 16], 1), Ok(vec![[0; RECORD]]))?
         .ours(ours(&[0; 16], 0, 1, 0), (Err((4, 0)), left(0)))?;
     let cut = "unexpected end of file: needed 16 bytes at offset 16 but only 0 remain";
     row(run, "one header, count 2")
@@ -53,6 +54,21 @@ fn lent(run: &mut Run) -> Compared {
     row(run, "start 1 in no bytes, count 0")
         .rust(text(reader.seek(1)), Err("seek out of range: 1 > 0".into()))?
         .ours(ours(&[], 1, 0, 0), (Err((2, 0)), left(0)))
+}
+
+/// Two files of one record: a header of zeros, and one whose large header of zeros is at 16. The Rust keeps no more of it.
+fn placed(run: &mut Run) -> Compared {
+    let mut large = [0; 47];
+    (large[0], large[FLAGS]) = (16, FLAGGED);
+    for (file, place) in [(&[0; 16][..], INLINE), (&large, 16)] {
+        let mut words = left(1);
+        words.fill(0);
+        words[PLACE] = place;
+        row(run, "the place of a large header, and none")
+            .rust(legacy(file, 1), Ok(vec![[0; RECORD]]))?
+            .ours(ours(file, 0, 1, 1), (Ok(1), words))?;
+    }
+    Ok(())
 }
 
 /// A flagged legacy header: the byte of its flags, and the flag.
@@ -122,7 +138,7 @@ pub fn replay(words: &mut Words) -> Result<String, Difference> {
 fn longer(run: &mut Run) -> Compared {
     let long = vec![0; LIMIT + 1];
     row(run, "j: one header of 2^30 + 1 bytes")
-        .rust(legacy(&long, 1), Ok(vec![[0; ROW]]))?
+        .rust(legacy(&long, 1), Ok(vec![[0; RECORD]]))?
         .ours(ours(&long, 0, 1, 1), (Err((1, 0)), left(1)))?;
     if !run.full {
         return Ok(());
@@ -131,7 +147,7 @@ fn longer(run: &mut Run) -> Compared {
     let mut long = vec![0; (1 << 32) + 36];
     long[..3].fill(0xFF);
     (long[5], long[6], long[11]) = (0xC0, 0x3F, FLAGGED);
-    let mut wrapped = [0; ROW];
+    let mut wrapped = [0; RECORD];
     (wrapped[0], wrapped[6]) = (1, 36);
     let refusal = read_functions(&long, Modern12, 0, 1);
     row(run, "j: a large header at 2^32 - 1")

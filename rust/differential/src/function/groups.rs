@@ -2,13 +2,17 @@
 
 pub mod write;
 
+use std::collections::BTreeSet;
+
+use bisquepond::function::FunctionRow;
 use bisquepond::sys::LIMIT;
+use bisquepond::Row as _;
 use harness::Random;
 
 use super::case::Op::*;
-use super::case::{fresh, Case, Layout, Op, LAYOUTS, OPS, ROW};
+use super::case::{fresh, Case, Layout, Op, INLINE, LAYOUTS, OPS, PLACE, RECORD, ROW};
 use super::differences;
-use crate::case::{code, Compared, Refusal};
+use crate::case::{code, Compared, Difference, Refusal};
 use crate::inputs::{any_bytes as bytes, any_words as words};
 use crate::run::Run;
 
@@ -17,7 +21,9 @@ pub fn compare(run: &mut Run) -> Compared {
     run.group("every bit of a header", bits)?;
     run.group("every flags byte, inline and large", flags)?;
     run.group("lengths, starts, counts and tables", edges)?;
+    run.group("every number of words lent", lent)?;
     run.group("packed places around the end, and far", places)?;
+    run.group("the place in the row", place_in_row)?;
     run.group("every span over small files", spans)?;
     run.group("edits, any table lent, and fresh reads", |run| {
         let mut random = run.random(7);
@@ -128,12 +134,14 @@ fn worked(run: &mut Run) -> Compared {
         0,
         1,
     );
-    let p1 = [0, 0, 256, 2, 10, 3, 0, 5, 4, 1, 2, 3, 0, 0, 0, 0];
+    let p1 = [0, 0, 256, 2, 10, 3, 0, 5, 4, 1, 2, 3, 0, 0, 0, 0, INLINE];
     says(run, table.case(Read, &lent), Ok(&p1))?;
+    says(run, table.case(One, &lent).of(One, 0), Ok(&p1))?;
     table.layout = Layout::Modern;
     table.file = vec![0, 1, 0, 0x44, 0x0A, 0xC0, 0, 0x29, 6, 7, 0x48, 4];
-    let p2 = [1, 0, 256, 2, 10, 3, 0, 6, 4, 1, 4, 5, 7, 8, 1, 0];
+    let p2 = [1, 0, 256, 2, 10, 3, 0, 6, 4, 1, 4, 5, 7, 8, 1, 0, INLINE];
     says(run, table.case(Read, &lent), Ok(&p2))?;
+    says(run, table.case(One, &lent).of(One, 0), Ok(&p2))?;
 
     // P3: a large header where the packed parts or-ed lead, another where their sum would.
     table.layout = Layout::Legacy;
@@ -142,7 +150,7 @@ fn worked(run: &mut Run) -> Compared {
     table.file[65_552] = 7;
     table.file[131_088] = 9;
     let mut p3 = [0; ROW];
-    p3[2] = 7;
+    (p3[2], p3[PLACE]) = (7, 65_552);
     says(run, table.case(Read, &lent), Ok(&p3))?;
 
     // P4: the same beyond 2^24, in the modern layout.
@@ -151,7 +159,7 @@ fn worked(run: &mut Run) -> Compared {
     table.file[..12].copy_from_slice(&[0x20, 0, 0, 1, 0, 0x40, 0, 0, 0, 0, 0, 0x20]);
     table.file[16_777_248] = 7;
     let mut p4 = [0; ROW];
-    (p4[0], p4[2], p4[6]) = (1, 7, 16_777_248 + 40);
+    (p4[0], p4[2], p4[6], p4[PLACE]) = (1, 7, 16_777_248 + 40, 16_777_248);
     says(run, table.case(Read, &lent), Ok(&p4))?;
 
     // P5: a large header that just fits, and one cut by a byte.
@@ -163,7 +171,9 @@ fn worked(run: &mut Run) -> Compared {
         let mut p5 = [0; ROW];
         p5[0] = layout as u32;
         p5[6] = 52 * layout as u32;
+        p5[PLACE] = place as u32;
         says(run, table.case(Read, &lent), Ok(&p5))?;
+        says(run, table.case(One, &lent).of(One, 0), Ok(&p5))?;
         table.file.pop();
         says(run, table.case(Read, &lent), Err((3, 0)))?;
     }
@@ -246,8 +256,19 @@ const FAR: [usize; 8] = [
     usize::MAX,
 ];
 
+/// The first row that begins at 2^32 words or past them: counted in 32 bits it begins at word 0, or at one of the first.
+pub const FIRST_PAST: u32 = ((1u64 << 32).div_ceil(ROW as u64)) as u32;
+
+/// Numbers of words up to so many rows: none, one; those of each number of rows, and of as many records, which make a row
+/// less; and of both a word less.
+pub fn around_rows(rows: usize) -> BTreeSet<usize> {
+    let each = |row: usize| [row * ROW - 1, row * ROW, row * RECORD - 1, row * RECORD];
+    (1..=rows).flat_map(each).chain([0, 1]).collect()
+}
+
 /// Counts and numbers that no table here has.
-const MANY: [u32; 5] = [1 << 26, 1 << 28, 1 << 31, u32::MAX - 1, u32::MAX];
+const MANY: [u32; 7] =
+    [1 << 26, FIRST_PAST, FIRST_PAST + 1, 1 << 28, 1 << 31, u32::MAX - 1, u32::MAX];
 
 /// Every start in and behind short files, counts up to the file's end and past it, and tables with too few words, just
 /// enough, and some over; every call, also with layouts that there are not.
@@ -263,8 +284,10 @@ fn edges(run: &mut Run) -> Compared {
             for start in (0..=len + 2).chain(FAR) {
                 let fit = len.saturating_sub(start) / layout.own();
                 for count in (0..=fit as u32 + 1).chain([random.pick(&MANY)]) {
-                    let rows = (count as usize).min(7) * ROW;
-                    for words in [rows.saturating_sub(1), rows, rows + random.below(ROW)] {
+                    let rows = (count as usize).min(7);
+                    let (records, rows) = (rows * RECORD, rows * ROW);
+                    let over = rows + random.below(ROW);
+                    for words in [records, rows.saturating_sub(1), rows, over] {
                         let mut table = Case {
                             op: Read,
                             file: &file,
@@ -283,6 +306,99 @@ fn edges(run: &mut Run) -> Compared {
                         table.layout = random.pick(&[2, 3, 1 << 31, u32::MAX]);
                         run.compare(&table)?;
                     }
+                }
+            }
+        }
+    }
+    Ok(())
+}
+
+/// No words to some more than five rows, for each count around those that they are: a table has as many rows as a row's
+/// words go into it, and what is left over stays.
+fn lent(run: &mut Run) -> Compared {
+    let mut random = run.random(11);
+    for layout in LAYOUTS {
+        let mut table = any_table(&mut random, Some(layout));
+        (table.start, table.count) = (0, 6);
+        table.file = bytes(&mut random, 6 * layout.own() + layout.large());
+        for id in 0..6 {
+            table.header(id)[layout.own() - 1] &= !0x20;
+        }
+        table.point(&mut random, 2, 6 * layout.own() as u64);
+        let (lent, span) = (words(&mut random, 5 * ROW + RECORD), (0, table.file.len()));
+        for words in 0..=lent.len() {
+            let rows = (words / ROW) as u32;
+            let lent = &lent[..words];
+            for count in (0..=rows + 1).chain([(words / RECORD) as u32, u32::MAX]) {
+                for op in [Read, Refresh, One] {
+                    let answer = run.compare(&table.refresh(span, lent).of(op, count))?;
+                    let few = if op == One { rows == 0 } else { count > rows };
+                    assert_eq!(answer.code == code(Err((4, 0))), few);
+                }
+            }
+        }
+    }
+    Ok(())
+}
+
+/// The last word of row 1 after a refresh of the rows lent, which is a fresh read's; and all words.
+fn last_word(
+    run: &mut Run,
+    table: &Table,
+    span: (usize, usize),
+    rows: &[u32],
+    place: Option<u32>,
+) -> Result<Vec<u32>, Difference> {
+    let answer = table.refresh(span, rows).compare_fresh()?;
+    run.equal();
+    let rows = answer.table[..rows.len()].to_vec();
+    let last = [0, 1, 2].map(|id| FunctionRow::rows(&rows)[id].large_place());
+    match (rows[ROW + PLACE], last) == (place.unwrap_or(INLINE), [None, place, None]) {
+        true => Ok(rows),
+        false => {
+            Err(format!("the places of a table are {last:?}, of which one is {place:?}").into())
+        }
+    }
+}
+
+/// Function 1 of three with a large header at every byte that it can have, by both layouts: its last word is the place that
+/// was packed, and 2^32 - 1 where the flag is clear. By a read, by one function, and by refreshes of the flag and of the
+/// place; by a refresh within the large header too, which leaves the word.
+fn place_in_row(run: &mut Run) -> Compared {
+    let mut random = run.random(12);
+    for layout in LAYOUTS {
+        let (own, large) = (layout.own(), layout.large());
+        let len = 3 * own + large + 9;
+        for place in 0..=len - large {
+            for start in [0, 1, len - 3 * own] {
+                let mut table = Table::new(layout, bytes(&mut random, len), start, 3);
+                for id in 0..3 {
+                    table.header(id)[own - 1] &= !0x20;
+                }
+                let (header, flag) = (start + own, start + 2 * own - 1);
+                let rows = fresh(&table.file, layout, start, 3).expect("inline headers").concat();
+                let rows = last_word(run, &table, (flag, flag + 1), &rows, None)?;
+                // The flag and the place, another place, the first one again, and the flag alone, cleared and set.
+                let other = random.below(len - large + 1);
+                let mut lent = rows;
+                for to in [place, other, place] {
+                    table.point(&mut random, 1, to as u64);
+                    let span = (header, header + own);
+                    lent = last_word(run, &table, span, &lent, Some(to as u32))?;
+                }
+                let all = words(&mut random, 3 * ROW);
+                run.compare(&table.case(Read, &all))?;
+                let one = run.compare(&table.case(One, &all).of(One, 1))?;
+                assert_eq!(one.table[PLACE], place as u32);
+                table.file[flag] ^= 0x20;
+                lent = last_word(run, &table, (flag, flag + 1), &lent, None)?;
+                table.file[flag] ^= 0x20;
+                lent = last_word(run, &table, (flag, flag + 1), &lent, Some(place as u32))?;
+                // A byte of the large header that is none of a header's.
+                let apart = |at: &usize| !(start..start + 3 * own).contains(at);
+                if let Some(at) = (place..place + large).find(apart) {
+                    table.file[at] ^= random.byte();
+                    last_word(run, &table, (at, at + 1), &lent, Some(place as u32))?;
                 }
             }
         }

@@ -6,7 +6,7 @@ use bisquepond::sys::LIMIT;
 use harness::Random;
 use published::format::FLAG_OVERFLOWED;
 
-use super::case::{one, Case, Layout, Op, LAYOUTS, OPS, ROW};
+use super::case::{one, Case, Layout, Op, LAYOUTS, OPS, RECORD, ROW};
 use super::groups::any_table;
 use crate::case::{Compare, Compared, Difference, Refusal};
 use crate::hostile::{file_of, rows_are, size, Soak};
@@ -123,7 +123,8 @@ fn overlapping(soak: &mut Soak, layout: Layout) -> Compared {
     Ok(())
 }
 
-/// As many functions as 2^30 bytes hold, all by the large header at byte 0: rows by the Rust's for one, with its number.
+/// As many functions as 2^30 bytes hold, all by the large header at byte 0: rows by the Rust's record for one, with its
+/// number and the place 0.
 fn most(soak: &mut Soak, layout: Layout) -> Compared {
     let count = LIMIT / layout.own();
     let size = file_of(LIMIT + 4 * ROW * count);
@@ -146,7 +147,7 @@ fn most(soak: &mut Soak, layout: Layout) -> Compared {
 /// Small tables with counts, ids and spans of any size.
 fn any(random: &mut Random) -> Compared {
     let table = any_table(random, None);
-    let words = random.pick(&[0, ROW - 1, ROW, 40 * ROW]);
+    let words = random.pick(&[0, RECORD - 1, RECORD, ROW - 1, ROW, 40 * RECORD, 40 * ROW]);
     let lent = any_words(random, words);
     let far = [0, 1, u32::MAX as usize, LIMIT, usize::MAX];
     for op in OPS {

@@ -5,8 +5,8 @@ mod write;
 use harness::Random;
 
 use super::case::Op::*;
-use super::case::{joined, right, Case, Layout, Op, LAYOUTS, ROW};
-use super::groups::{any_table, edited, Table};
+use super::case::{joined, right, Case, Layout, Op, INLINE, LAYOUTS, PLACE, ROW};
+use super::groups::{any_table, around_rows, edited, Table};
 use crate::case::code;
 use crate::inputs::any_bytes;
 use crate::record::{Record, Sample, FILL};
@@ -29,8 +29,8 @@ const NAMES: [&str; 12] = [
     "write_functions modern12",
 ];
 
-/// The rows for which the program has room, besides one that is not lent.
-const MOST_ROWS: usize = 15;
+/// The rows for which the program has room in its 256 words, besides one that is not lent.
+const MOST_ROWS: usize = 256 / ROW - 1;
 
 /// The call, and its group among those of the same layout.
 fn call(op: Op) -> (u64, usize) {
@@ -54,7 +54,7 @@ fn answers(group: usize) -> &'static [u32] {
     }
 }
 
-/// Adds a case with what is right: rows and their refusals by the Rust, all else by docs/FORMAT.md.
+/// Adds a case with what is right: records and their refusals by the Rust, all else by docs/FORMAT.md.
 fn add(sample: &mut Sample, case: Case) {
     assert!(case.table.len() <= MOST_ROWS * ROW);
     assert!(case.table.iter().all(|&word| word == FILL));
@@ -85,7 +85,10 @@ pub fn write(mut random: Random) -> (Vec<u8>, Vec<String>) {
         places(&mut sample, &mut random, layout);
         apart(&mut sample, &mut random, layout);
     }
-    while sample.fewer(730) {
+    for layout in LAYOUTS {
+        turned(&mut sample, &mut random, layout);
+    }
+    while sample.fewer(850) {
         edit(&mut sample, &mut random);
     }
     write::write(&mut sample, &mut random);
@@ -101,21 +104,23 @@ fn lent(rows: usize, over: usize) -> Vec<u32> {
     vec![FILL; rows * ROW + over]
 }
 
+/// The rows of P1 and P2 of docs/FORMAT.md, section 10.1.
+const WORKED: [[u32; ROW]; 2] = [
+    [0, 0, 256, 2, 10, 3, 0, 5, 4, 1, 2, 3, 0, 0, 0, 0, INLINE],
+    [1, 0, 256, 2, 10, 3, 0, 6, 4, 1, 4, 5, 7, 8, 1, 0, INLINE],
+];
+
 /// P1, P2 and P5 of docs/FORMAT.md, section 10.1, and the function that a fresh read and a refresh name each by itself.
 fn worked(sample: &mut Sample) {
     let p1 = [0, 1, 0, 4, 0x0A, 0x80, 1, 0, 0, 0, 0, 0x0A, 1, 2, 3, 4];
     let p2 = [0, 1, 0, 0x44, 0x0A, 0xC0, 0, 0x29, 6, 7, 0x48, 4];
-    let rows = [
-        [0, 0, 256, 2, 10, 3, 0, 5, 4, 1, 2, 3, 0, 0, 0, 0],
-        [1, 0, 256, 2, 10, 3, 0, 6, 4, 1, 4, 5, 7, 8, 1, 0],
-    ];
     let mut random = Random::new(1);
     for layout in LAYOUTS {
         let header: &[u8] = if layout == Layout::Legacy { &p1 } else { &p2 };
         let read = table(layout, header, 1);
         let mut words = lent(1, 0);
         assert_eq!(right(&read.case(Read, &lent(1, 0)), &mut words), Ok(1));
-        assert_eq!(words, rows[layout as usize]);
+        assert_eq!(words, WORKED[layout as usize]);
         add(sample, read.case(Read, &lent(1, 3)));
         // Cut at every byte.
         for len in 0..header.len() {
@@ -124,11 +129,14 @@ fn worked(sample: &mut Sample) {
         // A large header that just fits, and one cut by a byte.
         let mut large = table(layout, &vec![0; layout.own() + layout.large()], 1);
         large.point(&mut random, 0, layout.own() as u64);
-        let read = |large: &Table| right(&large.case(Read, &lent(1, 0)), &mut lent(1, 0));
-        assert_eq!(read(&large), Ok(1));
+        let read = |large: &Table, words: &mut [u32]| right(&large.case(Read, &lent(1, 0)), words);
+        let mut words = lent(1, 0);
+        assert_eq!(read(&large, &mut words), Ok(1));
+        assert_eq!(words[PLACE], layout.own() as u32);
         add(sample, large.case(Read, &lent(1, 0)));
+        add(sample, Case { count: 0, ..large.case(One, &lent(1, 0)) });
         large.file.pop();
-        assert_eq!(read(&large), Err((3, 0)));
+        assert_eq!(read(&large, &mut words), Err((3, 0)));
         add(sample, large.case(Read, &lent(1, 0)));
         // The large header of function 0 cut, and header 1 cut.
         let mut both = table(layout, &vec![0; 2 * layout.own() - 1], 2);
@@ -160,7 +168,7 @@ fn edges(sample: &mut Sample, random: &mut Random, layout: Layout) {
             }
         }
     }
-    for words in [0, ROW - 1, ROW, 2 * ROW - 1, 2 * ROW] {
+    for words in around_rows(2) {
         for count in [0, 1, 2, 3, u32::MAX] {
             for op in [Read, Refresh] {
                 let case = Case {
@@ -239,6 +247,25 @@ fn apart(sample: &mut Sample, random: &mut Random, layout: Layout) {
     }
     for at in [5 * own, 5 * own + 1, 5 * own + 2, 5 * own + large, 2 * own] {
         add(sample, made.refresh((at, at + 1), &lent(5, 1)));
+    }
+}
+
+/// A function whose large header comes, moves and goes, between two others: read, and refreshed over the words that are
+/// lent, whose last one it changes.
+fn turned(sample: &mut Sample, random: &mut Random, layout: Layout) {
+    let (own, large) = (layout.own(), layout.large());
+    let mut made = table(layout, &any_bytes(random, 3 * own + large + 4), 3);
+    for id in 0..3 {
+        made.file[(id + 1) * own - 1] &= 0xDF;
+    }
+    for place in [Some(3 * own), Some(3 * own + 4), None, Some(0)] {
+        match place {
+            Some(place) => made.point(random, 1, place as u64),
+            None => made.file[2 * own - 1] &= 0xDF,
+        }
+        add(sample, made.refresh((own, 2 * own), &lent(3, 1)));
+        add(sample, made.case(Read, &lent(3, 0)));
+        add(sample, Case { count: 1, ..made.case(One, &lent(1, 0)) });
     }
 }
 

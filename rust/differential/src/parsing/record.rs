@@ -8,6 +8,7 @@ use super::case::handlers::{self, function, FUNCTION, HAS};
 use super::case::sections;
 use super::groups;
 use crate::case::code;
+use crate::function::groups::around_rows;
 use crate::inputs::{any_bytes, any_words};
 use crate::record::{Record, Sample, FILL, READ_HANDLERS, TRAILING_SECTIONS};
 
@@ -101,7 +102,7 @@ pub fn write(mut random: Random) -> (Vec<u8>, Vec<String>) {
     places(&mut sample, &mut random);
     tables(&mut sample, &mut random);
     counts(&mut sample, &mut random);
-    while sample.fewer(400) {
+    while sample.fewer(440) {
         any(&mut sample, &mut random);
     }
     why::write(&mut sample, &mut random);
@@ -173,7 +174,7 @@ fn tables(sample: &mut Sample, random: &mut Random) {
     for lent in 0..=18 {
         listed(sample, &file, &functions, 3, lent);
     }
-    for words in [0, 1, 15, 16, 31, 32, 47, 48] {
+    for words in around_rows(3) {
         for count in [0, 1, 2, 3, 4, u32::MAX] {
             listed(sample, &file, &functions[..words], count, 16);
         }

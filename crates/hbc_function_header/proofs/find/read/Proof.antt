@@ -1,7 +1,7 @@
-use mathlib.Core.Path.{ap, _∙_}
+use mathlib.Core.Path.{refl, ap, _∙_}
 use native.Mathlib.Omega.{arith}
 use Rattle.hbc_io.specs.Answer.{refuses}
-use Rattle.hbc_function_header.proofs.Headers.{is-found, found-own, found-large}
+use Rattle.hbc_function_header.proofs.Headers.{is-found, found-own, found-large, large-held}
 use borrow.Author.Needs.{needs}
 use Rattle.hbc_function_header.proofs.find.read.Statement.{statement}
 use Rattle.hbc_function_header.proofs.find.read.Tie as tie
@@ -21,6 +21,9 @@ enum-known-place c = search needs
 large-record-requires : tie.Need-large-record-requires
 large-record-requires c κs = search needs
 
+cast-t11 : tie.Need-cast-t11
+cast-t11 c = let h = large-held _ _ _ (c .before .before .before .before .where-at .ensures) (c .before .before .place .given .1) in omega arith
+
 enum-known-number : tie.Need-enum-known-number
 enum-known-number c = search needs
 
@@ -28,10 +31,10 @@ refuse-requires : tie.Need-refuse-requires
 refuse-requires c κs = search needs
 
 returns : tie.Need-returns
-returns c = found-own _ _ _ (c .before .before .before .where-at .ensures) _ (c .before .enum-told .given .1) (c .inline-record .ensures)
+returns c = found-own _ _ _ (c .before .before .before .where-at .ensures) _ (c .before .enum-told .given .1) (c .inline-record .ensures, refl)
 
 returns-2 : tie.Need-returns-2
-returns-2 c = found-large _ _ _ (c .before .before .before .before .where-at .ensures) _ (omega arith) (c .before .before .place .given .1) (c .large-record .ensures)
+returns-2 c = found-large _ _ _ (c .before .before .before .before .where-at .ensures) _ (omega arith) (c .before .before .place .given .1) (c .large-record .ensures, refl)
 
 returns-3 : tie.Need-returns-3
 returns-3 c = ap refuses (c .refuse .ensures) ∙ is-found _ _ _ (c .before .before .before .before .where-at .ensures) _ (c .before .before .number .given .1)
@@ -45,6 +48,7 @@ read-spec =
     inline-record-requires
     enum-known-place
     large-record-requires
+    cast-t11
     enum-known-number
     refuse-requires
     returns

@@ -3,7 +3,7 @@
 
 use bisquepond::sys::*;
 
-use super::{fresh, Layout, Row, FLAGS, INFO_OFFSET, LAYOUTS, ROW};
+use super::{fresh, Layout, Row, FLAGS, INFO_OFFSET, INLINE, LAYOUTS, PLACE, RECORD, ROW};
 use crate::case::{self, bytes_word, printed, replayed, said, table_word};
 use crate::case::{Compare, Difference, Refusal, Words};
 use crate::lent::{copied, guarded, BEHIND, FRONT};
@@ -86,7 +86,7 @@ pub fn inline(layout: Layout, row: &[u32]) -> bool {
 /// Whether layout, number, zeros and the fields of one byte are right.
 fn sound(layout: Layout, id: usize, row: &[u32]) -> bool {
     let byte = |&(word, _, bytes): &Field| bytes > 1 || row[word] < 256;
-    let zeros = layout == Layout::Modern || row[12..] == [0; 4];
+    let zeros = layout == Layout::Modern || row[12..RECORD] == [0; 4];
     row[0] == layout as u32 && row[1] as usize == id && zeros && fields(layout).iter().all(byte)
 }
 
@@ -198,17 +198,32 @@ pub struct Written {
     rows: Vec<u32>,
 }
 
-/// The same rows, read back from a buffer by our reader and by the Rust's; else what is wrong.
+/// The rows as they are read back: the records, and as last word the place of each large header as it is now.
+pub fn placed(case: &Case) -> Vec<u32> {
+    let mut rows = case.rows[..case.count as usize * ROW].to_vec();
+    let places = places(LAYOUTS[case.layout as usize], &rows, case.large);
+    for (row, place) in rows.chunks_exact_mut(ROW).zip(places) {
+        row[PLACE] = place.map_or(INLINE, |place| place as u32);
+    }
+    rows
+}
+
+/// These rows, read back from a buffer by our reader and by the Rust's; else what is wrong.
 pub fn read_back(case: &Case, buffer: &[u8]) -> Result<(), String> {
     let Case { layout, start, count, .. } = *case;
-    let rows = &case.rows[..count as usize * ROW];
+    let rows = placed(case);
     let mut ours = vec![7; rows.len()];
     let (s, len, words) = (buffer.as_ptr(), buffer.len(), ours.len());
     let read = meter::call(|| unsafe {
         hbc_read_functions(s, len, layout, start, count, ours.as_mut_ptr(), words)
     });
     if read != count.into() || ours != rows {
-        return Err(format!("{}, or other rows, where it is read back", said(read, "rows")));
+        let wrong = ours.iter().zip(&rows).position(|(a, b)| a != b);
+        let word = wrong.map_or(String::new(), |i| {
+            let (row, word) = (i / ROW, i % ROW);
+            format!("; row {row} word {word} is {}, not {}", ours[i], rows[i])
+        });
+        return Err(format!("{}{word}, where it is read back", said(read, "rows")));
     }
     match fresh(buffer, LAYOUTS[layout as usize], start, count) {
         Ok(theirs) if theirs.as_flattened() == rows => Ok(()),

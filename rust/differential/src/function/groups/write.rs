@@ -5,10 +5,11 @@ use bisquepond::sys::{number, LIMIT};
 use bisquepond::Row as _;
 use harness::Random;
 
-use super::super::case::write::{fields, inline, plain, read_back, settle};
+use super::super::case::write::{fields, inline, placed, plain, read_back, settle};
 use super::super::case::write::{Case, Written, OVERFLOW};
-use super::super::case::{fresh, Layout, FLAGS, INFO_OFFSET, LAYOUTS, ROW};
-use super::any_table;
+use super::super::case::{fresh, Layout};
+use super::super::case::{FLAGS, INFO_OFFSET, INLINE, LAYOUTS, PLACE, RECORD, ROW};
+use super::{any_table, FIRST_PAST};
 use crate::case::{code, Compare as _, Compared, Difference, Refusal};
 use crate::inputs::{any_bytes as bytes, any_words as words};
 use crate::lent::Reserved;
@@ -19,6 +20,7 @@ pub fn compare(run: &mut Run) -> Compared {
     run.group("written: every bit of a row", bits)?;
     run.group("written: every field around its width", widths)?;
     run.group("written: small tables of every kind", small)?;
+    run.group("written: any last word", last_words)?;
     run.group("written: refusals, alone and in pairs", refusals)?;
     run.group("written: far places, counts and starts", far)?;
     run.group("written: tables that were read", |run| {
@@ -90,7 +92,7 @@ fn within(random: &mut Random, bits: u32) -> u32 {
     random.pick(&[0, most, any, any]) as u32
 }
 
-/// A row that goes inline.
+/// A row that goes inline. Its last word, which no writer looks at, is any.
 pub fn inline_row(random: &mut Random, layout: Layout, id: usize) -> [u32; ROW] {
     let mut row = [0; ROW];
     (row[0], row[1]) = (layout as u32, id as u32);
@@ -98,6 +100,8 @@ pub fn inline_row(random: &mut Random, layout: Layout, id: usize) -> [u32; ROW] 
         row[word] = within(random, bits);
     }
     row[FLAGS] &= !OVERFLOW;
+    let (near, any) = (random.below(400) as u32, random.word() as u32);
+    row[PLACE] = random.pick(&[0, near, any, INLINE]);
     row
 }
 
@@ -302,6 +306,40 @@ fn small(run: &mut Run) -> Compared {
     Ok(())
 }
 
+/// The last words of rows: all 0, all 2^32 - 1, those that are read back, those of another order, and others: whatever they
+/// are, the answer and the buffer are the same, of rows that are accepted and of such as are refused.
+fn last_words(run: &mut Run) -> Compared {
+    let mut random = run.random(30);
+    for round in 0..3_000 {
+        let mut draft = any_draft(&mut random);
+        if round % 4 == 0 && !draft.rows.is_empty() {
+            // Such as may be refused.
+            let at = random.below(draft.rows.len());
+            draft.rows[at] ^= 1 << random.below(32);
+        }
+        let read_back = placed(&draft.case());
+        let places: Vec<u32> = read_back.chunks_exact(ROW).map(|row| row[PLACE]).collect();
+        let mut others = places.clone();
+        others.rotate_left(places.len().min(1));
+        let mut all = vec![places, others, words(&mut random, draft.count as usize)];
+        let same = [0, INLINE, INLINE - 1, LIMIT as u32];
+        all.extend(same.map(|word| vec![word; draft.count as usize]));
+        let first = run.compare(&draft.case())?;
+        for last in all {
+            for (row, word) in draft.rows.chunks_exact_mut(ROW).zip(last) {
+                row[PLACE] = word;
+            }
+            let answer = run.compare(&draft.case())?;
+            if (answer.code, answer.buffer()) != (first.code, first.buffer()) {
+                let case = draft.case();
+                let [a, b] = [&first, &answer].map(|answer| case.said(answer, None));
+                return Err(case.difference(&format!("{a}, as with other last words"), &b));
+            }
+        }
+    }
+    Ok(())
+}
+
 /// One thing that is wrong, by the refusal's number.
 #[derive(Clone, Copy, PartialEq, Debug)]
 enum Fault {
@@ -412,7 +450,7 @@ fn faults(layout: Layout) -> Vec<Fault> {
             }
         }
         if layout == Layout::Legacy {
-            all.extend((12..ROW).map(|word| BadWord(id, word, 1)));
+            all.extend((12..RECORD).map(|word| BadWord(id, word, 1)));
         }
     }
     if layout == Layout::Modern {
@@ -461,7 +499,8 @@ const FAR: [usize; 14] = [
 ];
 
 /// Counts that no table here has; times 16, or times the words of a row, some would wrap in 32 bits.
-const MANY: [u32; 6] = [1 << 26, 1 << 28, (1 << 28) + 1, 1 << 31, u32::MAX - 1, u32::MAX];
+const MANY: [u32; 8] =
+    [1 << 26, FIRST_PAST, FIRST_PAST + 1, 1 << 28, (1 << 28) + 1, 1 << 31, u32::MAX - 1, u32::MAX];
 
 fn far(run: &mut Run) -> Compared {
     let mut random = run.random(27);

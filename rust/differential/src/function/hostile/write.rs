@@ -4,7 +4,7 @@ use bisquepond::sys::LIMIT;
 use harness::Random;
 
 use super::super::case::write::{header, large_header, leading, Case, OVERFLOW};
-use super::super::case::{Layout, FLAGS, INFO_OFFSET, ROW};
+use super::super::case::{Layout, FLAGS, INFO_OFFSET, PLACE, ROW};
 use super::super::groups::write::any_draft;
 use crate::case::{Compare, Compared, Difference, Refusal};
 use crate::hostile::{file_of, size, Soak};
@@ -58,6 +58,7 @@ fn most(soak: &mut Soak, layout: Layout, large: bool) -> Compared {
         let mut rows = vec![0; count * ROW];
         for (id, row) in rows.chunks_exact_mut(ROW).enumerate() {
             (row[0], row[1], row[2]) = (layout as u32, id as u32, id as u32 % (1 << 25));
+            row[PLACE] = !(id as u32);
             if large {
                 row[FLAGS] = OVERFLOW;
                 row[INFO_OFFSET] = (place + far * (id + 1)) as u32;

@@ -3,9 +3,10 @@
 use harness::Random;
 
 use super::super::case::write::{plain, OVERFLOW};
-use super::super::case::{Layout, FLAGS, INFO_OFFSET, LAYOUTS, ROW};
+use super::super::case::{Layout, FLAGS, INFO_OFFSET, INLINE, LAYOUTS, PLACE, ROW};
 use super::super::groups::write::{any_draft, inline_row, large_row, Draft};
-use super::MOST_ROWS;
+use super::super::groups::{around_rows, FIRST_PAST};
+use super::{MOST_ROWS, WORKED};
 use crate::case::code;
 use crate::inputs::bytes_of;
 use crate::record::{Record, Sample, FILL_BYTE, WRITE_FUNCTIONS};
@@ -46,6 +47,7 @@ pub fn write(sample: &mut Sample, random: &mut Random) {
     for layout in LAYOUTS {
         worked(sample, random, layout);
         edges(sample, random, layout);
+        last_words(sample, random, layout);
         wrong(sample, random, layout);
     }
     let mut left = 60;
@@ -60,11 +62,7 @@ pub fn write(sample: &mut Sample, random: &mut Random) {
 
 /// P1, P2 and P5 of docs/FORMAT.md, section 10.1, as they are written; and each kind of row at 1, rounded up.
 fn worked(sample: &mut Sample, random: &mut Random, layout: Layout) {
-    let rows = [
-        [0, 0, 256, 2, 10, 3, 0, 5, 4, 1, 2, 3, 0, 0, 0, 0],
-        [1, 0, 256, 2, 10, 3, 0, 6, 4, 1, 4, 5, 7, 8, 1, 0],
-    ];
-    let row = rows[layout as usize].to_vec();
+    let row = WORKED[layout as usize].to_vec();
     add(sample, &Draft::new(random, layout, row, 0));
     let mut row = vec![0; ROW];
     (row[0], row[FLAGS]) = (layout as u32, OVERFLOW);
@@ -107,7 +105,7 @@ fn edges(sample: &mut Sample, random: &mut Random, layout: Layout) {
     for start in [0, 2, len, len + 1].into_iter().chain(far) {
         add(sample, &Draft { start, ..good.clone() });
     }
-    for count in [0, 1, 3, 1 << 28, u32::MAX] {
+    for count in [0, 1, 3, FIRST_PAST, 1 << 28, u32::MAX] {
         add(sample, &Draft { count, ..good.clone() });
     }
     for less in [1, layout.large(), len - 3, len] {
@@ -115,9 +113,21 @@ fn edges(sample: &mut Sample, random: &mut Random, layout: Layout) {
         draft.buffer.truncate(len - less);
         add(sample, &draft);
     }
-    for words in [0, ROW, 2 * ROW - 1] {
+    for words in around_rows(2).into_iter().filter(|&words| words < 2 * ROW) {
         let mut draft = good.clone();
         draft.rows.truncate(words);
+        add(sample, &draft);
+    }
+}
+
+/// An inline row and a large one: whatever their last words are, the bytes are the same.
+fn last_words(sample: &mut Sample, random: &mut Random, layout: Layout) {
+    let mut rows = inline_row(random, layout, 0).to_vec();
+    rows.extend(large_row(random, layout, 1));
+    let mut draft = Draft::new(random, layout, rows, 0);
+    let place = draft.large.next_multiple_of(4) as u32;
+    for (inline, large) in [(INLINE, place), (place, INLINE), (0, 0), (1 << 30, INLINE - 1)] {
+        (draft.rows[PLACE], draft.rows[ROW + PLACE]) = (inline, large);
         add(sample, &draft);
     }
 }

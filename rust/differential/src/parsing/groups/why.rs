@@ -11,7 +11,7 @@ use harness::Random;
 use super::handlers::{any, FAR};
 use crate::case::{code, Compare, Compared, Refusal};
 use crate::function::case::{Layout, LAYOUTS};
-use crate::function::groups::Table;
+use crate::function::groups::{Table, FIRST_PAST};
 use crate::inputs::{any_bytes, any_words};
 use crate::lent::{Number, Reserved};
 use crate::parsing::case::handlers::{
@@ -229,9 +229,12 @@ fn flags(run: &mut Run) -> Compared {
     Ok(())
 }
 
-/// Numbers of functions that few tables have; of some, 16 times is 0 or little in 32 bits.
-const FAR_IDS: [u32; 9] = [
+/// Numbers of functions that few tables have; of some, the words of a row times it is 0 or little in 32 bits, or 16 times.
+const FAR_IDS: [u32; 12] = [
     1 << 16,
+    FIRST_PAST - 1,
+    FIRST_PAST,
+    FIRST_PAST + 1,
     (1 << 28) - 1,
     1 << 28,
     (1 << 28) + 1,
@@ -263,9 +266,16 @@ fn lent(run: &mut Run) -> Compared {
             }
         }
     }
-    let words = (1 << 33) + FUNCTION - 1;
-    let many = Reserved::<u32>::new(words).expect("addresses for a table of zeros");
-    for words in [(1 << 32) - 1, 1 << 32, (1 << 32) + FUNCTION - 1, (1 << 32) + FUNCTION, words] {
+    // Around 2^32 words and 2^33, and around the rows that are there.
+    let near = |words: usize| {
+        let whole = words / FUNCTION * FUNCTION;
+        let next = whole + FUNCTION;
+        [whole - 1, whole, whole + 1, words - 1, words, words + FUNCTION - 1, next - 1, next]
+    };
+    let all = [near(1 << 32), near(1 << 33)].concat();
+    let most = *all.iter().max().expect("some");
+    let many = Reserved::<u32>::new(most).expect("addresses for a table of zeros");
+    for words in all {
         let rows = (words / FUNCTION) as u64;
         for id in (0..3).chain(FAR_IDS).chain([rows as u32 - 1, rows as u32]) {
             for file in &files {

@@ -10,6 +10,7 @@ use super::super::groups;
 use super::super::groups::why::{worked_file, WORKED};
 use super::MOST_GIVEN;
 use crate::case::code;
+use crate::function::groups::{around_rows, FIRST_PAST};
 use crate::inputs::{any_bytes, any_words};
 use crate::record::{Record, Sample, FILL, WHY_NO_HANDLERS};
 
@@ -49,7 +50,7 @@ pub fn write(sample: &mut Sample, random: &mut Random) {
     }
     cut(&mut whys, random);
     rows(&mut whys, random);
-    while whys.sample.fewer(530) {
+    while whys.sample.fewer(600) {
         any(&mut whys, random);
     }
     // Last one with a number: it is spoiled in every way.
@@ -80,12 +81,12 @@ fn rows(whys: &mut Whys, random: &mut Random) {
         let row = &mut functions[i * FUNCTION..][..FUNCTION];
         (row[INFO_OFFSET], row[FLAGS]) = (info, flags);
     }
-    for words in [0, 15, 16, 31, 32, 47, 48] {
+    for words in around_rows(3) {
         for id in 0..=(words / FUNCTION) as u32 + 1 {
             whys.add(&file, &functions[..words], id);
         }
     }
-    for id in [1 << 28, (1 << 28) + 1, 1 << 31, u32::MAX] {
+    for id in [FIRST_PAST, FIRST_PAST + 1, 1 << 28, (1 << 28) + 1, 1 << 31, u32::MAX] {
         whys.add(&file, &functions, id);
     }
 }
