@@ -1,7 +1,8 @@
 /* What include/hbc.h says besides its prototypes, as a caller meets it: names, what a refused call leaves, the two modes
  * of strings, a string's text, why a function has no handlers, which LEB128 numbers are exact, what a refused refresh
- * asks for, what stands for no large header and where a row says that there is one, what is written and what is not. C99
- * and C++. Prints nothing; at the first test that fails its line, and then ends with status 1. */
+ * asks for, what becomes of the totals, what stands for no large header and where a row says that there is one, what is
+ * written and what is not. C99 and C++. Prints nothing; at the first test that fails its line, and then ends with
+ * status 1. */
 #include <stdio.h>
 #include <string.h>
 
@@ -33,6 +34,7 @@ static const char *name(uint64_t code)
     case HBC_REFUSED_BAD_ROW: return "BAD_ROW";
     case HBC_REFUSED_BAD_INFO_OFFSET: return "BAD_INFO_OFFSET";
     case HBC_REFUSED_LARGE_BEFORE_END: return "LARGE_BEFORE_END";
+    case HBC_REFUSED_BAD_TOTALS: return "BAD_TOTALS";
     default: return "unnamed";
     }
 }
@@ -45,20 +47,22 @@ static int refusals(void)
     static const uint8_t bytes[12] = {0x80, 0x80, 0x80, 0x80, 0x80, 0x80, 0x80, 0x80, 0x80, 0x80, 0x80, 0x80};
     static const uint32_t small[] = {255u << 24}, none[2] = {0, 0};
     uint32_t rows[HBC_FUNCTION_WORDS], kinds[1], exact;
-    uint64_t value, payloads[1];
+    uint64_t value, payloads[1], large = 5, sizes = 6;
     size_t at = 0, start, size;
     CHECK(is(hbc_seek(bytes, (size_t)HBC_LIMIT + 1, &at, 0), "TOO_LONG"));
     CHECK(is(hbc_seek(bytes, 12, &at, 13), "PAST_END"));
     CHECK(is(hbc_read_bytes(bytes, 12, &at, 13, &start, &size), "CUT"));
-    CHECK(is(hbc_read_functions(bytes, 12, HBC_LAYOUT_MODERN12, 0, 1, rows, HBC_FUNCTION_WORDS - 1), "TOO_FEW_ROWS"));
+    CHECK(is(hbc_read_functions(bytes, 12, HBC_LAYOUT_MODERN12, 0, 1, rows, HBC_FUNCTION_WORDS - 1, &large, &sizes),
+             "TOO_FEW_ROWS"));
     CHECK(is(hbc_read_uleb128(bytes, 12, &at, &value, &exact), "LEB128_TOO_LONG") && at == 10);
     CHECK(is(hbc_align(bytes, 12, &at, 0), "ZERO_ALIGNMENT"));
     CHECK(is(hbc_read_series(bytes, 12, 12, 1, kinds, 1, payloads, 1), "SERIES_PAST_END"));
     CHECK(is(hbc_decode_strings(1, none, 0, small, 1, none, 0, bytes, 12, rows, HBC_STRING_WORDS), "NO_OVERFLOW_PAIR"));
     CHECK(is(hbc_read_cstring(bytes, 12, &at, &start, &size), "NO_ZERO") && at == 12);
-    CHECK(is(hbc_refresh_functions(bytes, 12, HBC_LAYOUT_MODERN12, 0, 0, 1, 0, rows, 0), "BAD_SPAN"));
+    CHECK(is(hbc_refresh_functions(bytes, 12, HBC_LAYOUT_MODERN12, 0, 0, 1, 0, rows, 0, &large, &sizes), "BAD_SPAN"));
     CHECK(is(hbc_read_handlers(bytes, 12, none, 0, 1, rows, 0, &size), "TOO_FEW_TO_READ"));
-    CHECK(is(hbc_read_functions(bytes, 12, 2, 0, 0, rows, 0), "NO_SUCH_LAYOUT"));
+    CHECK(is(hbc_read_functions(bytes, 12, 2, 0, 0, rows, 0, &large, &sizes), "NO_SUCH_LAYOUT"));
+    CHECK(large == 5 && sizes == 6);
     return 0;
 }
 
@@ -267,19 +271,71 @@ static int refresh(void)
     uint8_t file[32] = {0};
     uint32_t rows[2 * HBC_FUNCTION_WORDS];
     const size_t words = sizeof rows / sizeof *rows;
-    CHECK(hbc_read_functions(file, 32, HBC_LAYOUT_LEGACY16, 0, 2, rows, words) == 2);
+    uint64_t large, sizes;
+    CHECK(hbc_read_functions(file, 32, HBC_LAYOUT_LEGACY16, 0, 2, rows, words, &large, &sizes) == 2);
     file[4] = 9;
     file[16] = 8; /* a large header at byte 8 would need 31 bytes */
     file[31] = HBC_FLAG_OVERFLOWED;
-    CHECK(is(hbc_refresh_functions(file, 32, HBC_LAYOUT_LEGACY16, 0, 2, 4, 32, rows, words), "CUT"));
-    CHECK(rows[HBC_FUNCTION_SIZE] == 0);
+    CHECK(is(hbc_refresh_functions(file, 32, HBC_LAYOUT_LEGACY16, 0, 2, 4, 32, rows, words, &large, &sizes), "CUT"));
+    CHECK(rows[HBC_FUNCTION_SIZE] == 0 && sizes == 0);
     file[31] = 0;
-    CHECK(hbc_refresh_functions(file, 32, HBC_LAYOUT_LEGACY16, 0, 2, 31, 32, rows, words) == 1);
-    CHECK(rows[HBC_FUNCTION_SIZE] == 0);
-    CHECK(hbc_refresh_functions(file, 32, HBC_LAYOUT_LEGACY16, 0, 2, 4, 32, rows, words) == 2);
-    CHECK(rows[HBC_FUNCTION_SIZE] == 9);
+    CHECK(hbc_refresh_functions(file, 32, HBC_LAYOUT_LEGACY16, 0, 2, 31, 32, rows, words, &large, &sizes) == 1);
+    CHECK(rows[HBC_FUNCTION_SIZE] == 0 && sizes == 0);
+    CHECK(hbc_refresh_functions(file, 32, HBC_LAYOUT_LEGACY16, 0, 2, 4, 32, rows, words, &large, &sizes) == 2);
+    CHECK(rows[HBC_FUNCTION_SIZE] == 9 && sizes == 9 && large == 0);
     CHECK(hbc_function_meets(file, 32, HBC_LAYOUT_LEGACY16, 0, 1, 4, 32) == 1);
     CHECK(hbc_function_meets(file, 32, HBC_LAYOUT_LEGACY16, 0, 1, 4, 16) == 0);
+    return 0;
+}
+
+/* The totals of the rows lent: set by a read, whatever they were, brought up to date by a refresh, left by what is
+ * refused and where no row is read again. Such as are not those of the rows are refused at the row that shows it, after
+ * all reads. */
+static int totals(void)
+{
+    const uint64_t most = UINT64_MAX / 2;
+    uint8_t file[79] = {0};
+    uint32_t rows[2 * HBC_FUNCTION_WORDS], before[2 * HBC_FUNCTION_WORDS];
+    const size_t words = sizeof rows / sizeof *rows;
+    uint64_t large = UINT64_MAX, sizes = 7, code;
+    file[4] = 10; /* the sizes of functions 0 and 1 */
+    file[20] = 20;
+    CHECK(hbc_read_functions(file, 79, HBC_LAYOUT_LEGACY16, 0, 1, rows, words, &large, &sizes) == 1);
+    CHECK(large == 0 && sizes == 10);
+    CHECK(hbc_read_functions(file, 79, HBC_LAYOUT_LEGACY16, 0, 2, rows, words, &large, &sizes) == 2);
+    CHECK(large == 0 && sizes == 30);
+    file[16] = 48; /* function 1 gets a large header, and with it another size; its own flags do not count */
+    file[31] = HBC_FLAG_OVERFLOWED;
+    file[56] = 77;
+    CHECK(hbc_refresh_functions(file, 79, HBC_LAYOUT_LEGACY16, 0, 2, 16, 32, rows, words, &large, &sizes) == 1);
+    CHECK(large == 1 && sizes == 87 && (rows[HBC_FUNCTION_WORDS + HBC_FUNCTION_FLAGS] & HBC_FLAG_OVERFLOWED) == 0);
+    file[31] = 0;
+    CHECK(hbc_refresh_functions(file, 79, HBC_LAYOUT_LEGACY16, 0, 2, 31, 32, rows, words, &large, &sizes) == 1);
+    CHECK(large == 0 && sizes == 30);
+
+    /* One too few for function 0, for function 1; one too many, also of a total that no row changes. */
+    memcpy(before, rows, sizeof rows);
+    sizes = 9;
+    code = hbc_refresh_functions(file, 79, HBC_LAYOUT_LEGACY16, 0, 2, 0, 79, rows, words, &large, &sizes);
+    CHECK(is(code, "BAD_TOTALS") && HBC_PLACE(code) == 0 && sizes == 9);
+    sizes = 19;
+    code = hbc_refresh_functions(file, 79, HBC_LAYOUT_LEGACY16, 0, 2, 0, 79, rows, words, &large, &sizes);
+    CHECK(is(code, "BAD_TOTALS") && HBC_PLACE(code) == 1 && sizes == 19);
+    sizes = 20;
+    CHECK(hbc_refresh_functions(file, 79, HBC_LAYOUT_LEGACY16, 0, 2, 0, 79, rows, words, &large, &sizes) == 2);
+    CHECK(sizes == 20);
+    large = most;
+    CHECK(hbc_refresh_functions(file, 79, HBC_LAYOUT_LEGACY16, 0, 2, 16, 17, rows, words, &large, &sizes) == 1);
+    large = most + 1;
+    code = hbc_refresh_functions(file, 79, HBC_LAYOUT_LEGACY16, 0, 2, 16, 17, rows, words, &large, &sizes);
+    CHECK(is(code, "BAD_TOTALS") && HBC_PLACE(code) == 1 && large == most + 1 && sizes == 20);
+    CHECK(hbc_refresh_functions(file, 79, HBC_LAYOUT_LEGACY16, 0, 2, 32, 79, rows, words, &large, &sizes) == 0);
+    CHECK(large == most + 1 && sizes == 20);
+    /* A read that is refused comes first. */
+    file[31] = HBC_FLAG_OVERFLOWED;
+    file[16] = 49;
+    CHECK(is(hbc_refresh_functions(file, 79, HBC_LAYOUT_LEGACY16, 0, 2, 0, 79, rows, words, &large, &sizes), "CUT"));
+    CHECK(large == most + 1 && sizes == 20 && memcmp(before, rows, sizeof rows) == 0);
     return 0;
 }
 
@@ -309,23 +365,24 @@ static int large_place(void)
 {
     uint32_t layout, rows[2 * HBC_FUNCTION_WORDS], one[HBC_FUNCTION_WORDS];
     const size_t words = sizeof rows / sizeof *rows;
+    uint64_t large, sizes;
     for (layout = HBC_LAYOUT_LEGACY16; layout <= HBC_LAYOUT_MODERN12; layout++) {
         const size_t own = layout == HBC_LAYOUT_LEGACY16 ? 16 : 12, place = own, flags = 2 * own - 1;
         const uint32_t *row = rows + HBC_FUNCTION_WORDS;
         uint8_t file[80] = {0};
         file[place] = 40; /* of function 1 the offset: no place yet */
-        CHECK(hbc_read_functions(file, 80, layout, 0, 2, rows, words) == 2);
+        CHECK(hbc_read_functions(file, 80, layout, 0, 2, rows, words, &large, &sizes) == 2);
         CHECK(rows[HBC_FUNCTION_LARGE_PLACE] == HBC_INLINE && row[HBC_FUNCTION_LARGE_PLACE] == HBC_INLINE);
         file[flags] = HBC_FLAG_OVERFLOWED;
-        CHECK(hbc_refresh_functions(file, 80, layout, 0, 2, flags, flags + 1, rows, words) == 1);
+        CHECK(hbc_refresh_functions(file, 80, layout, 0, 2, flags, flags + 1, rows, words, &large, &sizes) == 1);
         CHECK(row[HBC_FUNCTION_LARGE_PLACE] == 40 && rows[HBC_FUNCTION_LARGE_PLACE] == HBC_INLINE);
         file[place] = 41;
-        CHECK(hbc_refresh_functions(file, 80, layout, 0, 2, place, place + 1, rows, words) == 1);
+        CHECK(hbc_refresh_functions(file, 80, layout, 0, 2, place, place + 1, rows, words, &large, &sizes) == 1);
         CHECK(row[HBC_FUNCTION_LARGE_PLACE] == 41);
         CHECK(hbc_read_function(file, 80, layout, 0, 1, one, HBC_FUNCTION_WORDS) == 1);
         CHECK(memcmp(one, row, sizeof one) == 0);
         file[flags] = 0;
-        CHECK(hbc_refresh_functions(file, 80, layout, 0, 2, flags, flags + 1, rows, words) == 1);
+        CHECK(hbc_refresh_functions(file, 80, layout, 0, 2, flags, flags + 1, rows, words, &large, &sizes) == 1);
         CHECK(row[HBC_FUNCTION_LARGE_PLACE] == HBC_INLINE);
         /* The words of a record are no row. */
         CHECK(is(hbc_read_function(file, 80, layout, 0, 1, one, HBC_FUNCTION_LARGE_PLACE), "TOO_FEW_ROWS"));
@@ -354,6 +411,7 @@ static int written(void)
         const size_t own = layout == HBC_LAYOUT_LEGACY16 ? 16 : 12, size = layout == HBC_LAYOUT_LEGACY16 ? 31 : 37;
         const size_t end = 1 + 2 * own, place = 36, last = place + size;
         uint32_t *row = rows + HBC_FUNCTION_WORDS;
+        uint64_t larges, sizes;
         size_t header, large;
         memset(rows, 0, sizeof rows);
         rows[HBC_FUNCTION_LAYOUT] = row[HBC_FUNCTION_LAYOUT] = layout;
@@ -368,7 +426,8 @@ static int written(void)
         memset(buffer, 0xAB, sizeof buffer);
         CHECK(hbc_write_functions(rows, words, layout, 1, 2, 33, buffer, sizeof buffer) == last);
         CHECK(stayed(buffer, 0, 1) && stayed(buffer, end, place) && stayed(buffer, last, sizeof buffer));
-        CHECK(hbc_read_functions(buffer, last, layout, 1, 2, again, words) == 2);
+        CHECK(hbc_read_functions(buffer, last, layout, 1, 2, again, words, &larges, &sizes) == 2);
+        CHECK(larges == 1 && sizes == 1 << 15);
         rows[HBC_FUNCTION_LARGE_PLACE] = HBC_INLINE;
         row[HBC_FUNCTION_LARGE_PLACE] = (uint32_t)place;
         CHECK(memcmp(rows, again, sizeof rows) == 0);
@@ -409,6 +468,6 @@ static int version(void)
 
 int main(void)
 {
-    return refusals() || left() || modes() || texts() || handlers() || marks() || refresh() || ground() ||
+    return refusals() || left() || modes() || texts() || handlers() || marks() || refresh() || totals() || ground() ||
            large_place() || written() || version();
 }

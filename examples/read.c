@@ -1,5 +1,5 @@
-/* Reads a function table, changes a byte, brings the table up to date; then strings, texts, handlers and literals. From
- * the root:
+/* Reads a function table, changes a byte, brings table and totals up to date; then strings, texts, handlers and
+ * literals. From the root:
  * gcc -std=c99 -Wall -Wextra -pedantic -Iinclude examples/read.c "$(rust/archive)" -o read && ./read
  */
 #include <inttypes.h>
@@ -48,25 +48,35 @@ static void print_rows(const uint32_t *rows)
     }
 }
 
+/* The totals are kept beside the rows: nothing is added up to show them. */
+static void print_totals(uint64_t large, uint64_t sizes)
+{
+    printf("  in all: %" PRIu64 " of %d from large headers, %" PRIu64 " bytes of bytecode\n", large, COUNT, sizes);
+}
+
 static int functions(void)
 {
     uint32_t rows[COUNT * HBC_FUNCTION_WORDS];
     const size_t words = COUNT * HBC_FUNCTION_WORDS, changed = LARGE + 8;
-    uint64_t code = hbc_read_functions(file, sizeof file, HBC_LAYOUT_LEGACY16, 0, COUNT, rows, words);
+    uint64_t large = 0, sizes = 0;
+    uint64_t code = hbc_read_functions(file, sizeof file, HBC_LAYOUT_LEGACY16, 0, COUNT, rows, words, &large, &sizes);
     if (refused("read", code))
         return 1;
     printf("%" PRIu64 " functions\n", code);
     print_rows(rows);
+    print_totals(large, sizes);
 
     file[changed] += 1; /* the size of function 1 */
-    code = hbc_refresh_functions(file, sizeof file, HBC_LAYOUT_LEGACY16, 0, COUNT, changed, changed + 1, rows, words);
+    code = hbc_refresh_functions(file, sizeof file, HBC_LAYOUT_LEGACY16, 0, COUNT, changed, changed + 1, rows, words,
+                                 &large, &sizes);
     if (refused("refresh", code))
         return 1;
     printf("byte %zu changed, %" PRIu64 " row read again\n", changed, code);
     print_rows(rows);
+    print_totals(large, sizes);
 
     /* A file that ends within the large header: the place is the function. */
-    code = hbc_read_functions(file, 62, HBC_LAYOUT_LEGACY16, 0, COUNT, rows, words);
+    code = hbc_read_functions(file, 62, HBC_LAYOUT_LEGACY16, 0, COUNT, rows, words, &large, &sizes);
     return !(refused("read of 62 bytes", code) && HBC_NUMBER(code) == HBC_REFUSED_CUT);
 }
 

@@ -16,9 +16,9 @@
  * - The answer is one number: where the call is accepted 0, or a number below 2^32 if it says so below; else the
  *   refusal's number times 2^32, plus its place. HBC_NUMBER and HBC_PLACE take it apart. The place is 0 unless it is
  *   named below.
- * - A value is written only where the call is accepted; a refused call leaves the lent values (`*start`, `*size` and
- *   `*exact` among them), every word of the lent tables and every byte of a buffer as they were, and the cursor too,
- *   unless it says otherwise below.
+ * - A value is written only where the call is accepted; a refused call leaves the lent values (`*start`, `*size`,
+ *   `*exact`, `*large` and `*sizes` among them), every word of the lent tables and every byte of a buffer as they were,
+ *   and the cursor too, unless it says otherwise below.
  * - Every call ends, on every input, and never reads or writes outside what is lent.
  * - Nothing is allocated, and no call has data of its own: calls on different tables and numbers may run in parallel,
  *   on the same bytes too. What the archive needs besides is memcpy and memset.
@@ -33,10 +33,11 @@
 /* What this header and its archive are: the two must be of one version, and no linker sees where they are not. Since
  * 0.2.0 hbc_read_uleb128, hbc_read_sleb128, hbc_read_length_prefixed_string and hbc_read_debug have one parameter more,
  * the last, `exact`; since 0.3.0 there is hbc_string_text, since 0.4.0 hbc_why_no_handlers; since 0.5.0 a function's row
- * has 17 words where it had 16, so that a program that lends or reads such rows must be compiled again. */
-#define HBC_VERSION "0.5.0"
+ * has 17 words where it had 16, so that a program that lends or reads such rows must be compiled again; since 0.6.0
+ * hbc_read_functions and hbc_refresh_functions have two parameters more, the last, `large` and `sizes`. */
+#define HBC_VERSION "0.6.0"
 #define HBC_VERSION_MAJOR 0
-#define HBC_VERSION_MINOR 5
+#define HBC_VERSION_MINOR 6
 #define HBC_VERSION_PATCH 0
 
 /* The refusal's number in an answer, 0 if it was accepted; and its place. */
@@ -59,6 +60,7 @@
 #define HBC_REFUSED_LEB128_TOO_LONG 5   /* the tenth byte of a LEB128 number has bit 7 set */
 #define HBC_REFUSED_NO_OVERFLOW_PAIR 8  /* no overflow entry is left; in Hermes mode, none has the field's number */
 #define HBC_REFUSED_NO_ZERO 9           /* a zero-ended string has no zero */
+#define HBC_REFUSED_BAD_TOTALS 16       /* a total falls below 0 by what is taken out, or is above 2^63 - 1 */
 
 /* The most bytes that are read, and that the buffer of hbc_write_functions may have. */
 #define HBC_LIMIT 1073741824
@@ -143,6 +145,14 @@ uint64_t hbc_read_length_prefixed_string(const uint8_t *s, size_t s_len, size_t 
  *
  * `start` is the byte of the file at which the table of headers begins. A header with bit 5 of its flags set is read
  * from its large header, at the place packed into it.
+ *
+ * Two totals are kept beside a table, over its first `count` rows: `*large`, how many of them were read from large
+ * headers, which are those whose last word is not HBC_INLINE, and `*sizes`, the sum of their sizes (HBC_FUNCTION_SIZE).
+ * hbc_read_functions sets them, whatever they were, and hbc_refresh_functions brings them up to date: totals that are
+ * true of the first `count` rows lent are so after it. Lend it the two numbers that the last accepted call with this
+ * table and this count left. Of rows that came about otherwise, or of another count, add them up first; a row of zeros,
+ * as in a table that was cleared, counts as large, since its last word is not HBC_INLINE.
+ *
  * Refused 12 before all else if `layout` is neither 0 nor 1. */
 #define HBC_LAYOUT_LEGACY16 0
 #define HBC_LAYOUT_MODERN12 1
@@ -181,26 +191,32 @@ uint64_t hbc_read_length_prefixed_string(const uint8_t *s, size_t s_len, size_t 
 #define HBC_FLAG_PROHIBIT_CONSTRUCT 0x10
 #define HBC_FLAG_OVERFLOWED 0x20
 
-/* Reads functions 0 to count - 1 into rows 0 to count - 1 of `table`. Accepted, the answer is `count`; words past
- * those rows stay.
+/* Reads functions 0 to count - 1 into rows 0 to count - 1 of `table`. Accepted, the answer is `count`, and `*large` and
+ * `*sizes` are the totals of these rows; words past the rows stay. What the totals are before is not looked at.
  * Refused 12; 1; 2 if `start` is past the end; 4 if the table has fewer than `count` rows; then, with the first
  * function that cannot be read as place, 2 if its packed place is past the end, 3 if its header or its large header
  * runs past the end. */
 uint64_t hbc_read_functions(const uint8_t *file, size_t file_len, uint32_t layout, size_t start, uint32_t count,
-                            uint32_t *table, size_t table_len);
+                            uint32_t *table, size_t table_len, uint64_t *large, uint64_t *sizes);
 
 /* Brings a table up to date after the bytes from `low` up to `high` of the file changed, and nothing else: reads again
  * those of the `count` functions that meet this span, from the file as it is now, into their rows. A function meets it
  * if its header, or its large header if it is flagged, shares a byte with it; an empty span meets nothing.
- * Accepted, the answer is how many were read again, and hbc_function_meets says which; every other word stays.
- * Refused, no row is written, and the edit is not taken in: a later call with another span would leave its rows out of
- * date. Undo the edit, or let the span of the next call hold this one too. If the length of the file changed, read the
- * table anew.
+ * Accepted, the answer is how many were read again, and hbc_function_meets says which; every other word stays. Of each
+ * of these, in rising order, both totals lose what the row has in them as it was lent, and then gain what it has as it
+ * is now: 1 or 0, and its size. Where none is read again the totals stay, and are not looked at.
+ * Refused, no row is written, the totals stay, and the edit is not taken in: a later call with another span would leave
+ * its rows out of date. Undo the edit, or let the span of the next call hold this one too. If the length of the file
+ * changed, read the table anew.
  * Refused 12; 1; 2 if `start` is past the end; 10 if `low` is above `high`, or `high` past the end; 4 as above; 3 with
  * the first function whose header is not wholly in the file as place, whether it meets the span or not; then 2 or 3 as
- * above for the first function that meets the span and cannot be read. */
+ * above for the first function that meets the span and cannot be read; and after all these reads 16, with the first
+ * function read again as place at which a total falls below 0 by what it loses, or is above 2^63 - 1 after what it
+ * gains, be it a total that this row does not change. 16 says that the totals lent are not those of the rows lent: it
+ * does not occur where they are. Add them up, or read the table anew. */
 uint64_t hbc_refresh_functions(const uint8_t *file, size_t file_len, uint32_t layout, size_t start, uint32_t count,
-                               size_t low, size_t high, uint32_t *table, size_t table_len);
+                               size_t low, size_t high, uint32_t *table, size_t table_len, uint64_t *large,
+                               uint64_t *sizes);
 
 /* Reads function `id` alone, into row 0 of `table`. Accepted, the answer is 1; words past that row stay.
  * Refused 12; 1; 2 at place 0 if `start` is past the end; 4 if no row is lent; 2 or 3 with `id` as place. */

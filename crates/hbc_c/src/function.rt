@@ -1,4 +1,5 @@
 // The calls on function headers.
+ghost use Rattle.hbc_function.specs.Table.{lent};
 ghost use Rattle.hbc_c_function.specs.Function.{ToldFunctions, ToldRefresh, ToldWrite, ToldFunction, ToldGround, ToldMeets, places};
 
 #[no_mangle]
@@ -8,10 +9,13 @@ pub extern "C" fn hbc_read_functions(
     start: usize,
     count: u32,
     table: &mut [u32],
+    large: &mut u64,
+    sizes: &mut u64,
 ) -> u64
-    ensures { λ r. ⌜ ToldFunctions (now (file .entry)) layout start count (now (table .entry)) r (now (table .exit)) ⌝ }
+    ensures { λ r. ⌜ ToldFunctions (now (file .entry)) layout start count (lent (now (table .entry)) (now (large .entry)) (now (sizes .entry)))
+        r (lent (now (table .exit)) (now (large .exit)) (now (sizes .exit))) ⌝ }
 {
-    hbc_c_function::read_functions(file, layout, start, count, table)
+    hbc_c_function::read_functions(file, layout, start, count, table, large, sizes)
 }
 
 #[no_mangle]
@@ -23,10 +27,13 @@ pub extern "C" fn hbc_refresh_functions(
     low: usize,
     high: usize,
     table: &mut [u32],
+    large: &mut u64,
+    sizes: &mut u64,
 ) -> u64
-    ensures { λ r. ⌜ ToldRefresh (now (file .entry)) layout start count low high (now (table .entry)) r (now (table .exit)) ⌝ }
+    ensures { λ r. ⌜ ToldRefresh (now (file .entry)) layout start count low high (lent (now (table .entry)) (now (large .entry)) (now (sizes .entry)))
+        r (lent (now (table .exit)) (now (large .exit)) (now (sizes .exit))) ⌝ }
 {
-    hbc_c_function::refresh_functions(file, layout, start, count, low, high, table)
+    hbc_c_function::refresh_functions(file, layout, start, count, low, high, table, large, sizes)
 }
 
 // The headers of lent rows into a lent buffer.

@@ -14,7 +14,7 @@ use Rattle.hbc_function_header.specs.declared.Ground.{Ground}
 use Rattle.hbc_function_header.specs.declared.Ground.the-variants as ground
 use Rattle.hbc_function_header.specs.Header.{saysReading, functionAt, opened, functionGround}
 use Rattle.hbc_function_header.specs.Meets.{functionMeets}
-use Rattle.hbc_function.specs.Table.{rowBy, roomed, ReadFunctions}
+use Rattle.hbc_function.specs.Table.{rowBy, roomed, Table, ReadFunctions}
 use Rattle.hbc_function.specs.Refresh.{saysRefreshed, RefreshFunctions}
 use Rattle.hbc_function_write.specs.Write.{saysWrote, WriteFunctions}
 use Rattle.hbc_c_code.specs.Code.{codeOf, codeIn, truth, always}
@@ -28,18 +28,18 @@ pub record ByLayout {W : Type 0} (n : ℕ) (Promised : Layout → ℕ → W → 
 
 -- ---- a table read: accepted, the answer is the count
 
-abbrev pub TableRead : List ℕ → Layout → ℕ → ℕ → List ℕ → ℕ → List ℕ → Type 0
+abbrev pub TableRead : List ℕ → Layout → ℕ → ℕ → Table → ℕ → Table → Type 0
 TableRead s layout start count before = Told (always count) saysReading (ReadFunctions s layout start count before)
 
-abbrev pub ToldFunctions : List ℕ → ℕ → ℕ → ℕ → List ℕ → ℕ → List ℕ → Type 0
+abbrev pub ToldFunctions : List ℕ → ℕ → ℕ → ℕ → Table → ℕ → Table → Type 0
 ToldFunctions s layout start count before = ByLayout layout (λ l. TableRead s l start count before) before
 
 -- ---- a refresh: the answer is how many functions were read again
 
-abbrev pub TableRefreshed : List ℕ → Layout → ℕ → ℕ → ℕ → ℕ → List ℕ → ℕ → List ℕ → Type 0
+abbrev pub TableRefreshed : List ℕ → Layout → ℕ → ℕ → ℕ → ℕ → Table → ℕ → Table → Type 0
 TableRefreshed s layout start count low high before = Told (λ n. n) saysRefreshed (RefreshFunctions s layout start count low high before)
 
-abbrev pub ToldRefresh : List ℕ → ℕ → ℕ → ℕ → ℕ → ℕ → List ℕ → ℕ → List ℕ → Type 0
+abbrev pub ToldRefresh : List ℕ → ℕ → ℕ → ℕ → ℕ → ℕ → Table → ℕ → Table → Type 0
 ToldRefresh s layout start count low high before = ByLayout layout (λ l. TableRefreshed s l start count low high before) before
 
 -- ---- a table written: the answer is the end of what was written

@@ -2,6 +2,7 @@
 // rows are written the low half of an accepted answer is how many, where bytes are, their end.
 ghost use mathlib.Core.Path.{_≡_};
 ghost use Rattle.hbc_function_header.specs.Meets.{functionMeets};
+ghost use Rattle.hbc_function.specs.Table.{lent};
 ghost use Rattle.hbc_c_code.specs.Code.{codeIn, truth};
 ghost use Rattle.hbc_c_function.specs.Function.{places, TableRead, TableRefreshed, TableWritten, RowRead, GroundFound};
 ghost use Rattle.hbc_c_function.specs.Function.{ToldFunctions, ToldRefresh, ToldWrite, ToldFunction, ToldGround, ToldMeets};
@@ -23,23 +24,41 @@ use hbc_rows::put_row;
 // In place of a large header's place, where there is none.
 pub const NO_PLACE: usize = 0xFFFF_FFFF_FFFF_FFFF;
 
-fn read_table(file: &[u8], layout: Layout, start: usize, count: u32, table: &mut [u32]) -> u64
-    ensures { λ r. ⌜ TableRead (now (file .entry)) layout start count (now (table .entry)) r (now (table .exit)) ⌝ }
+fn read_table(
+    file: &[u8],
+    layout: Layout,
+    start: usize,
+    count: u32,
+    table: &mut [u32],
+    large: &mut u64,
+    sizes: &mut u64,
+) -> u64
+    ensures { λ r. ⌜ TableRead (now (file .entry)) layout start count (lent (now (table .entry)) (now (large .entry)) (now (sizes .entry)))
+        r (lent (now (table .exit)) (now (large .exit)) (now (sizes .exit))) ⌝ }
 {
-    match hbc_function::read_functions(file, layout, start, count, table) {
+    match hbc_function::read_functions(file, layout, start, count, table, large, sizes) {
         Reading::Read => count as u64,
         Reading::Refused(r) => code(r),
     }
 }
 
-pub fn read_functions(file: &[u8], layout: u32, start: usize, count: u32, table: &mut [u32]) -> u64
-    ensures { λ r. ⌜ ToldFunctions (now (file .entry)) layout start count (now (table .entry)) r (now (table .exit)) ⌝ }
+pub fn read_functions(
+    file: &[u8],
+    layout: u32,
+    start: usize,
+    count: u32,
+    table: &mut [u32],
+    large: &mut u64,
+    sizes: &mut u64,
+) -> u64
+    ensures { λ r. ⌜ ToldFunctions (now (file .entry)) layout start count (lent (now (table .entry)) (now (large .entry)) (now (sizes .entry)))
+        r (lent (now (table .exit)) (now (large .exit)) (now (sizes .exit))) ⌝ }
 {
     if layout == 0 {
-        return read_table(file, Layout::Legacy16, start, count, table);
+        return read_table(file, Layout::Legacy16, start, count, table, large, sizes);
     }
     if layout == 1 {
-        return read_table(file, Layout::Modern12, start, count, table);
+        return read_table(file, Layout::Modern12, start, count, table, large, sizes);
     }
     code(refuse(12, 0))
 }
@@ -52,10 +71,23 @@ fn refresh_table(
     low: usize,
     high: usize,
     table: &mut [u32],
+    large: &mut u64,
+    sizes: &mut u64,
 ) -> u64
-    ensures { λ r. ⌜ TableRefreshed (now (file .entry)) layout start count low high (now (table .entry)) r (now (table .exit)) ⌝ }
+    ensures { λ r. ⌜ TableRefreshed (now (file .entry)) layout start count low high (lent (now (table .entry)) (now (large .entry)) (now (sizes .entry)))
+        r (lent (now (table .exit)) (now (large .exit)) (now (sizes .exit))) ⌝ }
 {
-    match hbc_function::refresh_functions(file, layout, start, count, low, high, table) {
+    match hbc_function::refresh_functions(
+        file,
+        layout,
+        start,
+        count,
+        low,
+        high,
+        table,
+        large,
+        sizes,
+    ) {
         Refreshed::Done(n) => n as u64,
         Refreshed::Refused(r) => code(r),
     }
@@ -69,14 +101,37 @@ pub fn refresh_functions(
     low: usize,
     high: usize,
     table: &mut [u32],
+    large: &mut u64,
+    sizes: &mut u64,
 ) -> u64
-    ensures { λ r. ⌜ ToldRefresh (now (file .entry)) layout start count low high (now (table .entry)) r (now (table .exit)) ⌝ }
+    ensures { λ r. ⌜ ToldRefresh (now (file .entry)) layout start count low high (lent (now (table .entry)) (now (large .entry)) (now (sizes .entry)))
+        r (lent (now (table .exit)) (now (large .exit)) (now (sizes .exit))) ⌝ }
 {
     if layout == 0 {
-        return refresh_table(file, Layout::Legacy16, start, count, low, high, table);
+        return refresh_table(
+            file,
+            Layout::Legacy16,
+            start,
+            count,
+            low,
+            high,
+            table,
+            large,
+            sizes,
+        );
     }
     if layout == 1 {
-        return refresh_table(file, Layout::Modern12, start, count, low, high, table);
+        return refresh_table(
+            file,
+            Layout::Modern12,
+            start,
+            count,
+            low,
+            high,
+            table,
+            large,
+            sizes,
+        );
     }
     code(refuse(12, 0))
 }

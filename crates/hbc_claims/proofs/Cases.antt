@@ -17,9 +17,12 @@ use Rattle.hbc_io.specs.Lends.{below, choose}
 use Rattle.hbc_io.specs.Plain.{plainAt}
 use Rattle.hbc_io_leb.specs.Leb.{lebBytes}
 use Rattle.hbc_function_record.specs.Record.{largeOf, legacyOf, modernOf, inlineOf, legacyLarge, modernLarge, largeAt, flagsOf, overflowed, legacyPlace, modernPlace, placeOf, linkOf, legacyBy, modernBy}
-use Rattle.hbc_function_header.specs.Header.{groundOf, whereOf, whereAt, largeFound, recordAt, functionAt, readFunction}
+use Rattle.hbc_function_header.specs.Header.{groundOf, groundAt, whereOf, whereAt, largeFound, recordAt, functionAt, readFunction}
 use Rattle.hbc_function_record.specs.Row.{legacyWords, modernWords, rowWords}
+use Rattle.hbc_function_header.specs.Meets.{overlap, groundMeets, meets}
+use Rattle.hbc_function_totals.specs.Totals.{largeRow, sizeRow, sum, exchanged, next, kept}
 use Rattle.hbc_function.specs.Table as functions
+use Rattle.hbc_function.specs.Refresh.{held, refreshAnswer}
 use Rattle.hbc_rows.specs.Rows.{entryAt, filled, put, rowAt, putRow, putRows}
 use Rattle.hbc_function_bytes.specs.Bytes.{valuesIn, goesInline, inlineNumber, inlineBytes, largeBytes, pointerTo, rightRow}
 use Rattle.hbc_function_write.specs.Write.{freeAt, placeAt, endAt, headOf, putLarge, putHeader, putHeaders, rightEnd, checked, follows, writeAnswer}
@@ -52,6 +55,6 @@ modern-placed s h =
     packs.large (modernHead s) Modern12 0 0 (omega arith) refl (subst (λ (p : ℕ). p + largeOf Modern12 ≤ length (modernHead s)) (sym q) h) ∙ ap (λ (p : ℕ). gives (largeFound (modernHead s) Modern12 p 0)) q
 
 pub hold : All cases
-unfolding readFunction functions.readAnswer functions.scan functions.step functions.putRows legacyWords modernWords rowWords functionAt recordAt whereAt whereOf groundOf inlineOf largeAt flagsOf placeOf linkOf legacyOf modernOf legacyLarge modernLarge legacyPlace modernPlace leAt field overflowed below choose decodeAnswer lesser scan lacksPair rowOf rowWith rowFor entryOf bytesOf longOne pairsTaken runLength lengths firstPast pairAt kindOf runKind movedOn heldAt holding entryAt putRow putRows seriesAnswer filled valueAt after step runAt headAt tagAt plainAt widthOf literalOf lebBytes legacyBy modernBy fieldsOf joined fit laid put rowAt valuesIn goesInline inlineNumber inlineBytes largeBytes pointerTo rightRow freeAt placeAt endAt headOf putLarge putHeader putHeaders rightEnd checked follows writeAnswer rowOfByte passed whole written textAfter utf8Text encode encodeAll units pairOf alone scalars utf16Text textAnswer over putAnswer spanAt stringBytes isWide stringText counted tableAt whyAt why whyAnswer
+unfolding readFunction functions.readAnswer functions.scan functions.step functions.putRows refreshAnswer held meets groundMeets groundAt overlap kept next exchanged sum largeRow sizeRow legacyWords modernWords rowWords functionAt recordAt whereAt whereOf groundOf inlineOf largeAt flagsOf placeOf linkOf legacyOf modernOf legacyLarge modernLarge legacyPlace modernPlace leAt field overflowed below choose decodeAnswer lesser scan lacksPair rowOf rowWith rowFor entryOf bytesOf longOne pairsTaken runLength lengths firstPast pairAt kindOf runKind movedOn heldAt holding entryAt putRow putRows seriesAnswer filled valueAt after step runAt headAt tagAt plainAt widthOf literalOf lebBytes legacyBy modernBy fieldsOf joined fit laid put rowAt valuesIn goesInline inlineNumber inlineBytes largeBytes pointerTo rightRow freeAt placeAt endAt headOf putLarge putHeader putHeaders rightEnd checked follows writeAnswer rowOfByte passed whole written textAfter utf8Text encode encodeAll units pairOf alone scalars utf16Text textAnswer over putAnswer spanAt stringBytes isWide stringText counted tableAt whyAt why whyAnswer
 hold =
-    (refl, (refl, ((refl, legacy-placed), ((or-shifted 1 24 32 (lit< tt), modern-placed), ((refl, refl, refl, refl, refl), ((refl, refl, refl, refl, refl), ((refl, refl, refl, refl, refl), ((refl, refl, refl, refl, refl), ((refl, refl), ((refl, refl), ((refl, refl), ((refl, refl), ((refl, refl), (refl, (refl, (refl, ((refl, refl), ((refl, refl), ((refl, refl), ((refl, or-shifted 1 24 32 (lit< tt)), ((refl, refl), ((refl, refl), ((refl, refl), ((refl, refl), ((refl, refl), ((refl, refl), ((refl, refl), ((refl, refl), ((refl, refl), ((refl, refl), ((refl, refl), ((refl, refl), ((refl, refl), ((refl, refl), (refl, (refl, (refl, (refl, (refl, (refl, (refl, (refl, (refl, (refl, (refl, (refl, (refl, (refl, (refl, (refl, (refl, (refl, ((refl, refl), ((refl, refl), ((refl, refl), ((refl, refl), ((refl, refl), ((refl, refl), ((refl, refl), ((refl, refl), ((refl, refl), ((refl, refl), ((refl, refl), ((refl, refl), ((refl, refl), ((refl, refl), ((refl, refl), ((refl, refl), ((refl, refl), ((refl, refl), ((refl, refl), ((refl, refl), ((refl, refl), (refl, tt))))))))))))))))))))))))))))))))))))))))))))))))))))))))))))))))))))))))))
+    (refl, (refl, ((refl, legacy-placed), ((or-shifted 1 24 32 (lit< tt), modern-placed), ((refl, refl, refl, refl, refl), ((refl, refl, refl, refl, refl), ((refl, refl, refl, refl, refl), ((refl, refl, refl, refl, refl), ((refl, refl), ((refl, refl), ((refl, refl), ((refl, refl), ((refl, refl), (refl, (refl, (refl, ((refl, refl), ((refl, refl), ((refl, refl), ((refl, or-shifted 1 24 32 (lit< tt)), ((refl, refl), ((refl, refl), ((refl, refl), ((refl, refl), ((refl, refl), ((refl, refl), ((refl, refl), ((refl, refl), ((refl, refl), ((refl, refl), ((refl, refl), ((refl, refl), ((refl, refl), ((refl, refl), (refl, (refl, (refl, (refl, (refl, (refl, (refl, (refl, (refl, (refl, (refl, (refl, (refl, (refl, (refl, (refl, (refl, (refl, ((refl, refl), ((refl, refl), ((refl, refl), ((refl, refl), ((refl, refl), ((refl, refl), ((refl, refl), ((refl, refl), ((refl, refl), ((refl, refl), ((refl, refl), ((refl, refl), ((refl, refl), ((refl, refl), ((refl, refl), ((refl, refl), ((refl, refl), ((refl, refl), ((refl, refl), ((refl, refl), ((refl, refl), (refl, ((refl, refl), ((refl, refl), ((refl, refl), ((refl, refl), ((refl, refl), ((refl, refl), ((refl, refl), ((refl, refl), ((refl, refl), ((refl, refl), ((refl, refl), ((refl, refl), ((refl, refl), ((refl, refl), ((refl, refl), ((refl, refl), ((refl, refl), ((refl, refl), tt))))))))))))))))))))))))))))))))))))))))))))))))))))))))))))))))))))))))))))))))))))))))))))

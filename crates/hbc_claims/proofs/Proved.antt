@@ -25,7 +25,7 @@ use Rattle.hbc_function_header.specs.declared.Reading.{Reading}
 use Rattle.hbc_function_header.specs.declared.Reading.the-variants as reading
 use Rattle.hbc_function.specs.declared.Refreshed.{Refreshed}
 use Rattle.hbc_function.specs.declared.Refreshed.the-variants as refreshed
-use Rattle.hbc_function.specs.Table.{ReadFunctions}
+use Rattle.hbc_function.specs.Table.{Table, ReadFunctions}
 use Rattle.hbc_function.specs.Refresh.{RefreshFunctions}
 use Rattle.hbc_table.specs.Table.{ReadTable}
 use Rattle.hbc_table_strings.specs.declared.Mode.{Mode}
@@ -53,6 +53,8 @@ use Rattle.hbc_claims_function.proofs.Packed as packs
 use Rattle.hbc_claims_function.proofs.BitLayout as layouts
 use Rattle.hbc_claims_function.proofs.Refreshed as fresh
 use Rattle.hbc_claims_function.proofs.Tables.{filled, rewritten}
+use Rattle.hbc_claims_function.proofs.Totals as totals
+use Rattle.hbc_claims_function.proofs.Stops as stops
 use Rattle.hbc_claims_function.proofs.Unique as u-function
 use Rattle.hbc_claims_function.proofs.Written as written
 use Rattle.hbc_claims_function.proofs.Places as places
@@ -121,17 +123,17 @@ reader 𝓤 H A mem run = record {
   part = u-reader.part-clause 𝓤 H A mem run;
 }
 
-as-fresh : {a b : List ℕ} {layout : Layout} {start count low high : ℕ} {t t₁ t₂ t₃ : List ℕ} {r : Reading} {q : Refreshed} → Edited a b layout start count low high t t₁
+as-fresh : {a b : List ℕ} {layout : Layout} {start count low high : ℕ} {t t₀ t₁ t₂ t₃ : Table} {r : Reading} {q : Refreshed} → Edited a b layout start count low high t t₀ t₁
     → ReadFunctions b layout start count t r t₂ → RefreshFunctions b layout start count low high t₁ q t₃ → AsFresh r q t₁ t₂ t₃
 as-fresh {layout = layout} {start = start} {count = count} v f g =
-    let d = fresh.refreshed-as-fresh (v .same) layout start count (v .read) (v .valid .0) (v .valid .1) f g in
+    let d = fresh.refreshed-as-fresh (v .same) layout start count (v .read) (v .rows) (v .totals) (v .valid .0) (v .valid .1) (v .bytes) (v .words) f g in
     record {
-      answers = fresh.answers (v .same) layout start count (v .read) (v .valid .0) (v .valid .1) f g;
+      answers = fresh.answers (v .same) layout start count (v .read) (v .rows) (v .totals) (v .valid .0) (v .valid .1) (v .bytes) (v .words) f g;
       accepted = λ e. d .when-read e .2;
       refused = λ x e. d .when-refused x e .1;
     }
 
-refreshes : {s : List ℕ} {layout : Layout} {start count low high k : ℕ} {t t′ : List ℕ} → RefreshFunctions s layout start count low high t (refreshed.Done k) t′
+refreshes : {s : List ℕ} {layout : Layout} {start count low high k : ℕ} {t t′ : Table} → RefreshFunctions s layout start count low high t (refreshed.Done k) t′
     → Refreshes s layout start count low high t k t′
 refreshes v = let w = rewritten v in record { rows = w .met; others = w .unmet; behind = w .behind; counts = w .counts }
 
@@ -144,7 +146,7 @@ met s layout start low high i = record {
   shared = λ a n j v. meeting.byte-shares v;
 }
 
-reads : {s : List ℕ} {layout : Layout} {start count : ℕ} {t t′ : List ℕ} → ReadFunctions s layout start count t reading.Read t′ → Reads s layout start count t t′
+reads : {s : List ℕ} {layout : Layout} {start count : ℕ} {t t′ : Table} → ReadFunctions s layout start count t reading.Read t′ → Reads s layout start count t t′
 reads v = (filled v .rows, filled v .behind)
 
 cursor-left : (s : List ℕ) (c : Cursor) (k : Refusal) (n : Cursor) → CursorLeft s c k n
@@ -296,8 +298,8 @@ handlers-read s fs count t n t′ v = record {
 }
 
 -- two words of a row, of what is found there
-own-header : (s : List ℕ) (layout : Layout) (start count : ℕ) (t t′ : List ℕ) → ReadFunctions s layout start count t reading.Read t′
-    → (id : ℕ) → id < count → (f : Found) × (functionAt s layout start id ≡ gives f) × OfRecord (f .own) t′ id
+own-header : (s : List ℕ) (layout : Layout) (start count : ℕ) (t t′ : Table) → ReadFunctions s layout start count t reading.Read t′
+    → (id : ℕ) → id < count → (f : Found) × (functionAt s layout start id ≡ gives f) × OfRecord (f .own) (t′ .rows) id
 unfolding entryAt
 own-header s layout start count t t′ v id h =
     let all : Reads s layout start count t t′ = reads v in
@@ -336,7 +338,7 @@ theorems = record {
   worked = hold;
   unique = unique;
   reader = reader;
-  as-fresh = λ a b layout start count low high t t₁ t₂ t₃ r q v f g. as-fresh v f g;
+  as-fresh = λ a b layout start count low high t t₀ t₁ t₂ t₃ r q v f g. as-fresh v f g;
   refreshes = λ s layout start count low high k t t′ v. refreshes v;
   met = met;
   reads = λ s layout start count t t′ v. reads v;
@@ -371,4 +373,10 @@ theorems = record {
   place-refreshed = places.place-refreshed;
   place-row = places.place-row;
   place-one = places.place-one;
+  totals-read = totals.totals-read;
+  totals-kept = totals.totals-kept;
+  totals-moved = totals.totals-moved;
+  totals-passed = stops.totals-passed;
+  totals-fit = stops.totals-fit;
+  totals-stopped = stops.totals-stopped;
 }

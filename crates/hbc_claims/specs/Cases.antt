@@ -1,11 +1,11 @@
 -- docs/FORMAT.md, section 10.1: the worked cases that are proved, P1 to P10, W1 to W5, of which Wn is Pn the other way round, H1 and H2, on which
--- the modes of decoding strings differ, T1 to T8, texts, and Y1 to Y8, why a function has no handlers, in one list under one statement. A case is any
--- statement over the promises' definitions.
-use Prim.Native.Nat.{ℕ, zero, suc, _+_, _-_, _*_, _≤_}
+-- the modes of decoding strings differ, T1 to T8, texts, Y1 to Y8, why a function has no handlers, and S1 to S7, the totals beside a table, in one list
+-- under one statement. A case is any statement over the promises' definitions.
+use Prim.Native.Nat.{ℕ, zero, suc, _+_, _-_, _*_, _^_, _≤_}
 use mathlib.Core.Path.{_≡_}
 use mathlib.Core.List.{List, [], _∷_, _++_}
 use lib.IntN.{pos, negsuc}
-use lib.ListN.{length, replicate}
+use lib.ListN.{length, replicate, take}
 use Rattle.hbc_claims_law.specs.Terms.{packedAt}
 use Rattle.hbc_claims_function.specs.Packed.{legacy, modern}
 use Rattle.hbc_io.specs.Outcome.{got, valued, cursorAt}
@@ -20,7 +20,9 @@ use Rattle.hbc_function_record.specs.declared.Record.the-variants as rec
 use Rattle.hbc_function_record.specs.Record.{largeOf, legacyPlace, modernPlace}
 use Rattle.hbc_function_record.specs.Row.{width, recordWidth, inline, rowWords, foundAt}
 use Rattle.hbc_function_header.specs.Header.{largeFound, functionAt, readFunction}
+use Rattle.hbc_function_totals.specs.Totals.{totals}
 use Rattle.hbc_function.specs.Table as functions
+use Rattle.hbc_function.specs.Refresh.{refreshAnswer, refreshedBy}
 use Rattle.hbc_rows.specs.Rows.{rowAt}
 use Rattle.hbc_function_bytes.specs.Bytes.{inlineBytes}
 use Rattle.hbc_function_write.specs.Write.{headOf, putHeaders, writeAnswer}
@@ -115,6 +117,54 @@ IsWhy s info flags v number = (whyAnswer s (replicate 6 9 ++ info ∷ 9 ∷ flag
 -- 48 zeros, a count in two bytes, and so many zeros more
 abbrev pub counting : ℕ → ℕ → ℕ → List ℕ
 counting low high more = replicate 48 0 ++ low ∷ high ∷ replicate more 0
+
+-- a legacy header that is not flagged, of a function of size 10 (P1), and a flagged one that names place 32; there, a large header of size 20
+abbrev pub legacyOwn : List ℕ
+legacyOwn = 0 ∷ 1 ∷ 0 ∷ 4 ∷ 10 ∷ 128 ∷ 1 ∷ 0 ∷ 0 ∷ 0 ∷ 0 ∷ 10 ∷ 1 ∷ 2 ∷ 3 ∷ 4 ∷ []
+
+abbrev pub legacyFlagged : List ℕ
+legacyFlagged = 32 ∷ replicate 14 0 ++ 32 ∷ []
+
+abbrev pub legacyBehind : List ℕ
+legacyBehind = replicate 8 0 ++ 20 ∷ replicate 22 0
+
+-- a file of two functions, the second read from the large header; and the same file after an edit, which makes it inline
+abbrev pub legacyTwo : List ℕ
+legacyTwo = legacyOwn ++ legacyFlagged ++ legacyBehind
+
+abbrev pub legacyEdited : List ℕ
+legacyEdited = legacyOwn ++ legacyOwn ++ legacyBehind
+
+-- a modern one of three: of size 10 (P2), flagged with place 36, where a large header of size 300 is, and of size 10 again
+abbrev pub modernOwn : List ℕ
+modernOwn = 0 ∷ 1 ∷ 0 ∷ 68 ∷ 10 ∷ 192 ∷ 0 ∷ 41 ∷ 6 ∷ 7 ∷ 72 ∷ 4 ∷ []
+
+abbrev pub modernThree : List ℕ
+modernThree = modernOwn ++ 36 ∷ replicate 10 0 ++ 32 ∷ modernOwn ++ replicate 12 0 ++ 44 ∷ 1 ∷ replicate 23 0
+
+-- the words of so many rows, read from 0 on
+abbrev pub rowsRead : Layout → List ℕ → ℕ → List ℕ
+rowsRead layout s count = functions.putRows functions.all (functionAt s layout 0) (replicate (count * width) 9) count
+
+-- so many functions of the table at 0, read into words of 9 and two totals of 7: the answer, and the totals afterwards
+abbrev pub Sums : Layout → List ℕ → ℕ → Answer (Unit {0}) → ℕ → ℕ → Type 0
+Sums layout s count answer large sizes =
+    (functions.readAnswer s layout 0 count (count * width) ≡ answer)
+    × (written (functions.readAnswer s layout 0 count (count * width)) (functions.summed (rowsRead layout s count) count)
+    (functions.lent (replicate (count * width) 9) 7 7) .totals ≡ totals large sizes)
+
+-- functions of the table at 0, refreshed where they meet a span, in a table of these rows with these totals: the answer, and the totals afterwards
+abbrev pub RefreshesIn : Layout → ℕ → List ℕ → ℕ → ℕ → functions.Table → Answer ℕ → ℕ → ℕ → Type 0
+RefreshesIn layout count s low high t answer large sizes =
+    (refreshAnswer s layout 0 count low high t ≡ answer)
+    × (written (refreshAnswer s layout 0 count low high t) (refreshedBy s layout 0 count low high t) t .totals ≡ totals large sizes)
+
+-- two of the legacy table
+abbrev pub Refreshes : List ℕ → ℕ → ℕ → functions.Table → Answer ℕ → ℕ → ℕ → Type 0
+Refreshes = RefreshesIn Legacy16 2
+
+abbrev pub twoWith : ℕ → ℕ → functions.Table
+twoWith large sizes = functions.lent (rowsRead Legacy16 legacyTwo 2) large sizes
 
 abbrev pub cases : List {1} (Type 0)
 cases =
@@ -227,4 +277,31 @@ cases =
     ∷ IsWhy (counting 2 0 25) 45 8 (Hidden reason.Cut) 7
     ∷ IsWhy (counting 2 0 26) 45 8 (Shown (table 2 52)) 0
     ∷ (whyAnswer (counting 2 0 26) (replicate (2 * width - 1) 8) 1 ≡ refusedAt 11 0)
+    -- S1: one of two functions is read from a large header; without the last byte the read is refused, and the totals are as they were
+    ∷ Sums Legacy16 legacyTwo 2 (gives tt) 1 30
+    ∷ Sums Legacy16 (take 62 legacyTwo) 2 (refusedAt 3 1) 7 7
+    -- S2: one of three; and of no function, none
+    ∷ Sums Modern12 modernThree 3 (gives tt) 1 320
+    ∷ Sums Modern12 modernThree 0 (gives tt) 0 0
+    -- S3: S1's table, refreshed where the edit was: totals that were true are those of a fresh read. One byte of the header is enough, and one of the large
+    -- header is not, since no function has it any more
+    ∷ Refreshes legacyEdited 16 32 (twoWith 1 30) (gives 1) 0 20
+    ∷ Sums Legacy16 legacyEdited 2 (gives tt) 0 20
+    ∷ Refreshes legacyEdited 31 32 (twoWith 1 30) (gives 1) 0 20
+    ∷ Refreshes legacyEdited 32 63 (twoWith 1 30) (gives 0) 1 30
+    -- S4: totals below what the old row adds: none large, or sizes of 19. The first such row is named
+    ∷ Refreshes legacyEdited 16 32 (twoWith 0 30) (refusedAt 16 1) 0 30
+    ∷ Refreshes legacyEdited 16 32 (twoWith 1 19) (refusedAt 16 1) 1 19
+    ∷ Refreshes legacyEdited 0 32 (twoWith 0 9) (refusedAt 16 0) 0 9
+    -- S5: the most that a total may be is 2^63 - 1, once the old row is out and the new one in
+    ∷ Refreshes legacyEdited 16 32 (twoWith 1 (2 ^ 63 + 9)) (gives 1) 0 (2 ^ 63 - 1)
+    ∷ Refreshes legacyEdited 16 32 (twoWith 1 (2 ^ 63 + 10)) (refusedAt 16 1) 1 (2 ^ 63 + 10)
+    ∷ Refreshes legacyTwo 16 32 (functions.lent (rowsRead Legacy16 legacyEdited 2) (2 ^ 63 - 1) 20) (refusedAt 16 1) (2 ^ 63 - 1) 20
+    -- S6: where no row is read again, any totals stay
+    ∷ Refreshes legacyEdited 16 16 (twoWith (2 ^ 64 - 1) (2 ^ 64 - 1)) (gives 0) (2 ^ 64 - 1) (2 ^ 64 - 1)
+    -- S7: a total that the row does not change is looked at; a function that cannot be read comes before 16, wherever it stands; and a modern table, of which
+    -- the same large row is read again
+    ∷ Refreshes legacyTwo 0 16 (twoWith (2 ^ 63) 30) (refusedAt 16 0) (2 ^ 63) 30
+    ∷ Refreshes (take 62 legacyTwo) 0 32 (twoWith 0 0) (refusedAt 3 1) 0 0
+    ∷ RefreshesIn Modern12 3 modernThree 72 73 (functions.lent (rowsRead Modern12 modernThree 3) 1 320) (gives 1) 1 320
     ∷ []

@@ -1,6 +1,7 @@
--- docs/FORMAT.md, section 1.6, each part naming its own: every theorem on calls in full: the words in twelve sections, and at the end the theorems
+-- docs/FORMAT.md, section 1.6, each part naming its own: every theorem on calls in full: the words in thirteen sections, and at the end the theorems
 -- themselves, in one record, under the names in brackets; proofs/Proved proves them. The promises that they speak of (`ReadFunctions`, ..) are what the
--- calls' contracts cite (docs/PROMISES.md), the terms are those of hbc_claims_law/specs/Terms. n is a cursor as a call leaves it, t′ a table.
+-- calls' contracts cite (docs/PROMISES.md), the terms are those of hbc_claims_law/specs/Terms. n is a cursor as a call leaves it, t′ a table. A
+-- `Table` of functions has the words of its rows, and beside them two totals.
 use Prim.Native.Nat.{ℕ, suc, _+_, _*_, _%_, _^_, _≤_, _<_}
 use mathlib.Core.Path.{_≡_}
 use mathlib.Core.List.{List, [], _∷_, _++_}
@@ -59,7 +60,7 @@ use Rattle.hbc_function_header.specs.Header.{saysFunction, saysReading, headerA
 use Rattle.hbc_function_header.specs.Meets.{overlap, meets}
 use Rattle.hbc_function.specs.declared.Refreshed.{Refreshed}
 use Rattle.hbc_function.specs.declared.Refreshed.the-variants as refreshed
-use Rattle.hbc_function.specs.Table.{ReadFunctions}
+use Rattle.hbc_function.specs.Table.{Table, ReadFunctions}
 use Rattle.hbc_function.specs.Refresh.{saysRefreshed, RefreshFunctions}
 use Rattle.hbc_function_write.specs.declared.Wrote.{Wrote}
 use Rattle.hbc_function_write.specs.declared.Wrote.the-variants as sent
@@ -85,7 +86,7 @@ use Rattle.hbc_buffer.specs.Series.{Run, after, headAt, ReadSeries}
 use Rattle.hbc_buffer_object.specs.declared.Object.{Object}
 use Rattle.hbc_buffer_object.specs.Object.{named as choice, objectPart, ReadObject}
 use Rattle.hbc_parsing_handlers.specs.declared.Listed.the-variants as listed
-use Rattle.hbc_parsing_handlers.specs.declared.Table.{Table}
+use Rattle.hbc_parsing_handlers.specs.declared.Table.{Table as Triples}
 use Rattle.hbc_parsing_handlers.specs.declared.Why.the-variants as reason
 use Rattle.hbc_parsing_handlers.specs.declared.Explained.{Explained}
 use Rattle.hbc_parsing_handlers.specs.Why.{why, shown, WhyNoHandlers}
@@ -125,7 +126,8 @@ use Rattle.hbc_claims_function.specs.Packed as packed
 use Rattle.hbc_claims_function.specs.BitLayout.{Covers, Named}
 use Rattle.hbc_claims_function.specs.Unique as u-function
 use Rattle.hbc_claims_function.specs.Places.{Tells}
-use Rattle.hbc_claims_function.specs.Written.{Written, ReadsBack, SameRecords, Headed, Kept, Placed}
+use Rattle.hbc_claims_function.specs.Totals.{True, Moved as TotalsMoved, Stopped, Passed}
+use Rattle.hbc_claims_function.specs.Written.{Words, Written, ReadsBack, SameRecords, Headed, Kept, Placed}
 use Rattle.hbc_claims_table.specs.Unique as u-table
 use Rattle.hbc_claims_table.specs.Within.{Within}
 use Rattle.hbc_claims_table.specs.Before as was
@@ -151,7 +153,8 @@ use Rattle.hbc_claims.specs.Cases.{cases}
 use Rattle.hbc_claims.specs.Unique as u-listing
 use Rattle.hbc_claims.specs.Records as u-records
 
--- ==== 1. The worked cases: P1 to P10, W1 to W5, H1 and H2, T1 to T8, Y1 to Y8 of docs/FORMAT.md, section 10, each stated in Cases, one list (`worked`)
+-- ==== 1. The worked cases: P1 to P10, W1 to W5, H1 and H2, T1 to T8, Y1 to Y8, S1 to S7 of docs/FORMAT.md, section 10, each stated in Cases, one list
+-- (`worked`)
 -- ==== 2. Uniqueness (`unique`) of every public call, by layers, and of every exported one: two outcomes that both meet its contract, as the checker has it,
 -- are equal: the answer, and every word or number that was lent to it; each by the one law of hbc_claims_law, what equals one thing is one thing
 pub record Unique : Type 0 where
@@ -186,27 +189,33 @@ pub record Reader {M : Type 1} (𝓤 : URA M) (H : Heap 𝓤) (A : Atoms 𝓤) (
       → of-part.ensures-1 𝓤 H κs A mem run a p b t r ≡ fact 𝓤 (Part p (now (b .entry)) r)
 
 -- ==== 3. A refreshed table is a fresh one (docs/FORMAT.md, section 3.8)
--- given: the table t became t₁ by an accepted read of a; b is as long as a and the same outside a valid span [low, high)
-pub record Edited (a b : List ℕ) (layout : Layout) (start count low high : ℕ) (t t₁ : List ℕ) : Type 0 where
+-- given: the table t became t₀ by an accepted read of a; the rows of t₁ are its rows, and its totals are true of them (section 13); b is as long as a and
+-- the same outside a valid span [low, high). Bytes are bytes, and words words
+pub record Edited (a b : List ℕ) (layout : Layout) (start count low high : ℕ) (t t₀ t₁ : Table) : Type 0 where
   pub same : Same a b low high
   pub valid : (low ≤ high) × (high ≤ length b)
-  pub read : ReadFunctions a layout start count t reading.Read t₁
+  pub read : ReadFunctions a layout start count t reading.Read t₀
+  pub rows : t₁ .rows ≡ t₀ .rows
+  pub totals : True t₁ count
+  pub bytes : (i : ℕ) → getD b i 0 < 256
+  pub words : Words (t₁ .rows)
 
 -- then (`as-fresh`), r and t₂ being a fresh read's of b into t, and q and t₃ the refresh's of t₁ with b:
-pub record AsFresh (r : Reading) (q : Refreshed) (t₁ t₂ t₃ : List ℕ) : Type 0 where
+pub record AsFresh (r : Reading) (q : Refreshed) (t₁ t₂ t₃ : Table) : Type 0 where
   -- (a) the refresh is accepted exactly when the fresh read is, and else refused with the same number at the same function
   pub answers : saysReading r ≡ asked (saysRefreshed q)
-  -- (b) accepted, it leaves the fresh read's table, every word, the 17 of each row among them; refused, the table as it was
+  -- (b) accepted, it leaves the fresh read's table, every word, the 17 of each row among them, and its two totals; refused, the table and the totals as they
+  -- were
   pub accepted : r ≡ reading.Read → t₃ ≡ t₂
   pub refused : (x : Refusal) → r ≡ reading.Refused x → t₃ ≡ t₁
 
 -- for any table lent, an accepted refresh (refresh_functions) that reports k (`refreshes`):
-pub record Refreshes (s : List ℕ) (layout : Layout) (start count low high : ℕ) (t : List ℕ) (k : ℕ) (t′ : List ℕ) : Type 0 where
+pub record Refreshes (s : List ℕ) (layout : Layout) (start count low high : ℕ) (t : Table) (k : ℕ) (t′ : Table) : Type 0 where
   -- the row of each function that meets the span is written from the new file
-  pub rows : (i c : ℕ) → i < count → meets s layout start low high i ≡ true → c < width → RowWord s layout start i c (getD t′ (i * width + c) 0)
+  pub rows : (i c : ℕ) → i < count → meets s layout start low high i ≡ true → c < width → RowWord s layout start i c (getD (t′ .rows) (i * width + c) 0)
   -- no other word is touched, and the table is as long as before; and k is how many functions meet it
-  pub others : (i c : ℕ) → meets s layout start low high i ≡ false → c < width → getD t′ (i * width + c) 0 ≡ getD t (i * width + c) 0
-  pub behind : Behind (count * width) t t′
+  pub others : (i c : ℕ) → meets s layout start low high i ≡ false → c < width → getD (t′ .rows) (i * width + c) 0 ≡ getD (t .rows) (i * width + c) 0
+  pub behind : Behind (count * width) (t .rows) (t′ .rows)
   pub counts : k ≡ countOf (meets s layout start low high) count
 
 -- that function i, whose header is at a place, meets the span (`met`):
@@ -222,9 +231,9 @@ pub record Meets (s : List ℕ) (layout : Layout) (start low high i at : ℕ) : 
   pub shared : (a n j : ℕ) → Shared a n low high j → overlap a n low high ≡ true
 
 -- an accepted read (read_functions) writes the row of each function, no word behind them, and the table is as long as before (`reads`)
-abbrev pub Reads : List ℕ → Layout → ℕ → ℕ → List ℕ → List ℕ → Type 0
+abbrev pub Reads : List ℕ → Layout → ℕ → ℕ → Table → Table → Type 0
 Reads s layout start count t t′ =
-    ((i c : ℕ) → i < count → c < width → RowWord s layout start i c (getD t′ (i * width + c) 0)) × Behind (count * width) t t′
+    ((i c : ℕ) → i < count → c < width → RowWord s layout start i c (getD (t′ .rows) (i * width + c) 0)) × Behind (count * width) (t .rows) (t′ .rows)
 
 -- ==== 4. What a refusal leaves; the cursor, by call (`cursor-left`)
 pub record CursorLeft (s : List ℕ) (c : Cursor) (k : Refusal) (n : Cursor) : Type 1 where
@@ -255,8 +264,9 @@ pub record TablesLeft (k : Refusal) : Type 0 where
   -- utf8_text and utf16_text, whatever the text; string_text
   pub put-text : (text s t t′ : List ℕ) → PutText text s t (put.Refused k) t′ → t′ ≡ t
   pub string-text : (storage rows : List ℕ) (index : ℕ) (t t′ : List ℕ) → StringText storage rows index t (put.Refused k) t′ → t′ ≡ t
-  pub read-functions : (s : List ℕ) (layout : Layout) (start count : ℕ) (t t′ : List ℕ) → ReadFunctions s layout start count t (reading.Refused k) t′ → t′ ≡ t
-  pub refresh-functions : (s : List ℕ) (layout : Layout) (start count low high : ℕ) (t t′ : List ℕ)
+  -- the rows and both totals
+  pub read-functions : (s : List ℕ) (layout : Layout) (start count : ℕ) (t t′ : Table) → ReadFunctions s layout start count t (reading.Refused k) t′ → t′ ≡ t
+  pub refresh-functions : (s : List ℕ) (layout : Layout) (start count low high : ℕ) (t t′ : Table)
       → RefreshFunctions s layout start count low high t (refreshed.Refused k) t′ → t′ ≡ t
   pub function-row : (s : List ℕ) (layout : Layout) (start i : ℕ) (t t′ : List ℕ) → FunctionRow s layout start i t (reading.Refused k) t′ → t′ ≡ t
   -- the buffer of write_functions
@@ -308,8 +318,9 @@ pub record ExportedLeft (s : List ℕ) (at r at′ : ℕ) : Type 1 where
 -- the exported calls that answer a count or an end, where r tells a refusal, from 2^32 up: every lent word or byte is as it was; l is a layout's number
 -- (`counted-left`)
 pub record CountedLeft (s : List ℕ) (r : ℕ) : Type 0 where
-  pub hbc-read-functions : (l start count : ℕ) (t : List ℕ) {t′ : List ℕ} → count < 2 ^ 32 → ToldFunctions s l start count t r t′ → t′ ≡ t
-  pub hbc-refresh-functions : (l start count low high : ℕ) (t : List ℕ) {t′ : List ℕ} → count < 2 ^ 32 → ToldRefresh s l start count low high t r t′ → t′ ≡ t
+  -- the rows and both totals
+  pub hbc-read-functions : (l start count : ℕ) (t : Table) {t′ : Table} → count < 2 ^ 32 → ToldFunctions s l start count t r t′ → t′ ≡ t
+  pub hbc-refresh-functions : (l start count low high : ℕ) (t : Table) {t′ : Table} → count < 2 ^ 32 → ToldRefresh s l start count low high t r t′ → t′ ≡ t
   pub hbc-read-function : (l start i : ℕ) (t : List ℕ) {t′ : List ℕ} → ToldFunction s l start i t r t′ → t′ ≡ t
   -- s being the buffer here
   pub hbc-write-functions : (rows : List ℕ) (l start count large : ℕ) {b′ : List ℕ} → ToldWrite rows l start count large s r b′ → b′ ≡ s
@@ -424,8 +435,8 @@ pub record ObjectRead (keys values : List ℕ) (b : Bool) (offset count : ℕ) (
 pub record HandlersRead (s functions : List ℕ) (count : ℕ) (t : List ℕ) (n : ℕ) (t′ : List ℕ) : Type 0 where
   -- as many as the functions have; function i has rows exactly when its reason is "shown", and then as many as that says
   pub counts : n ≡ total s functions count
-  pub some : (i : ℕ) (w : Table) → why s functions i ≡ reason.Shown w → (0 < w .count) × (total s functions (suc i) ≡ total s functions i + w .count)
-  pub only : (i : ℕ) → 0 < shown s functions i .count → (w : Table) × (why s functions i ≡ reason.Shown w)
+  pub some : (i : ℕ) (w : Triples) → why s functions i ≡ reason.Shown w → (0 < w .count) × (total s functions (suc i) ≡ total s functions i + w .count)
+  pub only : (i : ℕ) → 0 < shown s functions i .count → (w : Triples) × (why s functions i ≡ reason.Shown w)
   -- each row is of one of the functions; handler j of function i is row total i + j; no word behind the rows changes, and the table is as long
   pub whose : (k : ℕ) → k < n → Whose s functions count k
   pub row : (i j : ℕ) → i < count → j < shown s functions i .count
@@ -523,18 +534,32 @@ pub record Texts : Type 0 where
 -- Of a table read (`place-read`), of each row that a refresh wrote (`place-refreshed`; the others it does not touch), of one row (`place-row`), and of the
 -- record and the place that read_function answers, as the row that they make (`place-one`)
 
+-- ==== 13. The totals beside the table (docs/FORMAT.md, section 3.10); each part stands in full in hbc_claims_function/specs/Totals
+-- two totals are lent beside the rows of a table: how many of them were read from a large header, which are those whose 17th word is not 2^32 - 1, and the sum
+-- of their size words. They are true of the first `count` rows where they are just that by the table's own words, whoever wrote it (`True`)
+-- after every accepted read they are true of the rows that were read, whatever totals were lent (`totals-read`)
+-- totals that were true are true after every accepted refresh with that count (`totals-kept`)
+-- of any table and totals lent, an accepted refresh that reports k: what the rows that meet the span added to a total as they were is taken out of it, and what
+-- they add as they are is added; and if there is one, k not being 0, neither total is above 2^63 - 1 (`totals-moved`; in full `Moved`)
+-- and each row that was exchanged could be (`totals-passed`; in full `Passed`): of the functions before it alone the refresh is accepted too, and with the
+-- totals that it leaves none fails at this row (`Fails`)
+-- with totals that are true no refresh is refused 16, bytes being below 256 and words below 2^32 (`totals-fit`)
+-- one that is refused 16 at row i (`totals-stopped`; in full `Stopped`): i is below the count, function i meets the span, and each function that does can be
+-- read. Of the functions before i alone the refresh is accepted, so that i is the first; and with the totals that it leaves, row i cannot be exchanged for
+-- function i of the file: a total is less than that row adds to it, or, that taken out and the function's added, above 2^63 - 1 (`Fails`)
+
 -- ==== The theorems
 pub record Theorems : Type 2 where
   pub worked : All cases
   pub unique : Unique
   pub reader : {M : Type 1} (𝓤 : URA M) (H : Heap 𝓤) (A : Atoms 𝓤) (mem : Memory → SProp 𝓤) (run : Routine → Fun 𝓤) → Reader 𝓤 H A mem run
-  pub as-fresh : (a b : List ℕ) (layout : Layout) (start count low high : ℕ) (t t₁ t₂ t₃ : List ℕ) (r : Reading) (q : Refreshed)
-      → Edited a b layout start count low high t t₁ → ReadFunctions b layout start count t r t₂ → RefreshFunctions b layout start count low high t₁ q t₃
+  pub as-fresh : (a b : List ℕ) (layout : Layout) (start count low high : ℕ) (t t₀ t₁ t₂ t₃ : Table) (r : Reading) (q : Refreshed)
+      → Edited a b layout start count low high t t₀ t₁ → ReadFunctions b layout start count t r t₂ → RefreshFunctions b layout start count low high t₁ q t₃
       → AsFresh r q t₁ t₂ t₃
-  pub refreshes : (s : List ℕ) (layout : Layout) (start count low high k : ℕ) (t t′ : List ℕ)
+  pub refreshes : (s : List ℕ) (layout : Layout) (start count low high k : ℕ) (t t′ : Table)
       → RefreshFunctions s layout start count low high t (refreshed.Done k) t′ → Refreshes s layout start count low high t k t′
   pub met : (s : List ℕ) (layout : Layout) (start low high i : ℕ) → Meets s layout start low high i (headerAt layout start i)
-  pub reads : (s : List ℕ) (layout : Layout) (start count : ℕ) (t t′ : List ℕ) → ReadFunctions s layout start count t reading.Read t′
+  pub reads : (s : List ℕ) (layout : Layout) (start count : ℕ) (t t′ : Table) → ReadFunctions s layout start count t reading.Read t′
       → Reads s layout start count t t′
   pub cursor-left : (s : List ℕ) (c : Cursor) (k : Refusal) (n : Cursor) → CursorLeft s c k n
   pub tables-left : (k : Refusal) → TablesLeft k
@@ -562,8 +587,8 @@ pub record Theorems : Type 2 where
   pub explained : (s functions : List ℕ) (id : ℕ) (r : Explained) → WhyNoHandlers s functions id r → Explains s functions id r
   pub explained-rows : (s functions : List ℕ) (id count : ℕ) (t : List ℕ) (r : Explained) (n : ℕ) (t′ : List ℕ) → id < count
       → WhyNoHandlers s functions id r → ReadHandlers s functions count t (listed.Rows n) t′ → Lists id r n t′
-  pub explained-header : (s : List ℕ) (layout : Layout) (start count : ℕ) (t t′ : List ℕ) → ReadFunctions s layout start count t reading.Read t′
-      → (id : ℕ) → id < count → (f : Found) × (functionAt s layout start id ≡ gives f) × OfRecord (f .own) t′ id
+  pub explained-header : (s : List ℕ) (layout : Layout) (start count : ℕ) (t t′ : Table) → ReadFunctions s layout start count t reading.Read t′
+      → (id : ℕ) → id < count → (f : Found) × (functionAt s layout start id ≡ gives f) × OfRecord (f .own) (t′ .rows) id
   pub explained-told : (s functions : List ℕ) (id n r n′ : ℕ) → ToldWhy s functions id n r n′
       → (q : Explained) × WhyNoHandlers s functions id q × WhyTold q n r n′
   pub sections-read : (s : List ℕ) (start regexps storage cjs : ℕ) (given : Bool) (sources : ℕ) (v : Sections)
@@ -580,12 +605,24 @@ pub record Theorems : Type 2 where
   pub one-output : (rows₁ rows₂ : List ℕ) (layout : Layout) (start count large : ℕ) (b : List ℕ) (r q : Wrote) (b₁ b₂ : List ℕ)
       → count * width ≤ length rows₁ → count * width ≤ length rows₂ → SameRecords rows₁ rows₂ count
       → WriteFunctions rows₁ layout start count large b r b₁ → WriteFunctions rows₂ layout start count large b q b₂ → (r ≡ q) × (b₁ ≡ b₂)
-  pub place-read : (s : List ℕ) (layout : Layout) (start count : ℕ) (t t′ : List ℕ) → ReadFunctions s layout start count t reading.Read t′
-      → (i : ℕ) → i < count → Tells s layout (headerAt layout start i) i (rowAt width t′ i)
-  pub place-refreshed : (s : List ℕ) (layout : Layout) (start count low high k : ℕ) (t t′ : List ℕ)
+  pub place-read : (s : List ℕ) (layout : Layout) (start count : ℕ) (t t′ : Table) → ReadFunctions s layout start count t reading.Read t′
+      → (i : ℕ) → i < count → Tells s layout (headerAt layout start i) i (rowAt width (t′ .rows) i)
+  pub place-refreshed : (s : List ℕ) (layout : Layout) (start count low high k : ℕ) (t t′ : Table)
       → RefreshFunctions s layout start count low high t (refreshed.Done k) t′ → (i : ℕ) → i < count → meets s layout start low high i ≡ true
-      → Tells s layout (headerAt layout start i) i (rowAt width t′ i)
+      → Tells s layout (headerAt layout start i) i (rowAt width (t′ .rows) i)
   pub place-row : (s : List ℕ) (layout : Layout) (start i : ℕ) (row row′ : List ℕ) → FunctionRow s layout start i row reading.Read row′
       → Tells s layout (headerAt layout start i) i row′
   pub place-one : (s : List ℕ) (layout : Layout) (start i : ℕ) (r : Record) (place : ℕ) → saysFunction (function.Read r place) ≡ readFunction s layout start i
       → Tells s layout (headerAt layout start i) i (rowWords (foundAt place r))
+  pub totals-read : (s : List ℕ) (layout : Layout) (start count : ℕ) (t t′ : Table) → ReadFunctions s layout start count t reading.Read t′ → True t′ count
+  pub totals-kept : (s : List ℕ) (layout : Layout) (start count low high k : ℕ) (t t′ : Table)
+      → RefreshFunctions s layout start count low high t (refreshed.Done k) t′ → True t count → True t′ count
+  pub totals-moved : (s : List ℕ) (layout : Layout) (start count low high k : ℕ) (t t′ : Table)
+      → RefreshFunctions s layout start count low high t (refreshed.Done k) t′ → TotalsMoved (meets s layout start low high) count k t t′
+  pub totals-passed : (s : List ℕ) (layout : Layout) (start count low high k : ℕ) (t t′ : Table)
+      → RefreshFunctions s layout start count low high t (refreshed.Done k) t′ → (i : ℕ) → i < count → meets s layout start low high i ≡ true
+      → Passed s layout start low high t i
+  pub totals-fit : (s : List ℕ) (layout : Layout) (start count low high : ℕ) (t t′ : Table) (x : Refusal) → ((i : ℕ) → getD s i 0 < 256) → Words (t .rows)
+      → True t count → RefreshFunctions s layout start count low high t (refreshed.Refused x) t′ → x .number ≡ 16 → ⊥
+  pub totals-stopped : (s : List ℕ) (layout : Layout) (start count low high : ℕ) (t t′ : Table) (x : Refusal)
+      → RefreshFunctions s layout start count low high t (refreshed.Refused x) t′ → x .number ≡ 16 → Stopped s layout start count low high t (x .place)

@@ -3,7 +3,7 @@
 use mathlib.Core.Path.{_≡_, refl, sym, ap, subst, _∙_}
 use mathlib.Core.Bool.{Bool, true, false, cond}
 use mathlib.Core.List.{List}
-use Prim.Native.Nat.{ℕ, _*_, _^_, _≤_, _<_}
+use Prim.Native.Nat.{ℕ, _^_, _≤_, _<_}
 use native.Mathlib.Omega.{arith}
 use lib.Ieee.{Float}
 use lib.ListN.{length, getD}
@@ -30,11 +30,12 @@ use Rattle.hbc_function_record.specs.declared.Layout.{Layout}
 use Rattle.hbc_function_header.specs.declared.Ground.{Ground}
 use Rattle.hbc_function_header.specs.Header.{functionAt, functionGround}
 use Rattle.hbc_function_header.specs.Meets.{meets}
+use Rattle.hbc_function.specs.Table.{Table}
 use Rattle.hbc_function.specs.Refresh.{refreshAnswer}
 use Rattle.hbc_function_write.specs.Write.{writeAnswer}
 use Rattle.hbc_table.specs.Table.{ReadTable}
 use Rattle.hbc_table_strings.specs.declared.Mode.{Mode}
-use Rattle.hbc_table_strings.specs.Strings.{lesser, decodeAnswer}
+use Rattle.hbc_table_strings.specs.Strings.{lesser}
 use Rattle.hbc_buffer_literal.specs.declared.Literal.{Literal}
 use Rattle.hbc_buffer_literal.specs.Literal.{literalAt}
 use Rattle.hbc_buffer.specs.Series.{saysSeries, seriesAnswer}
@@ -49,7 +50,7 @@ use Rattle.hbc_debug.specs.Debug.{Tables, saysDebug}
 use Rattle.hbc_debug.specs.declared.Debugged.{Debugged}
 use Rattle.hbc_debug.specs.declared.Debugged.the-variants as debugged
 use Rattle.hbc_c_code.specs.Code.{codeOf, codeIn, always, valueIn, truth}
-use Rattle.hbc_c_code.specs.Told.{Told, ToldValue, Moves, Reads}
+use Rattle.hbc_c_code.specs.Told.{ToldValue, Moves, Reads}
 use Rattle.hbc_c_code.proofs.Tolds.{left}
 use Rattle.hbc_c_io.specs.Io.{ReadsSpan, Marked}
 use Rattle.hbc_c_function.specs.Function.{Places, GroundTold, ToldFunctions, ToldRefresh, ToldWrite, ToldFunction, ToldGround}
@@ -154,21 +155,22 @@ module _ (s : List ℕ) (at : ℕ) {r at′ : ℕ} (h : r ≡ 0 → ⊥) where
 
 -- ---- function tables
 
-module _ (n : ℕ) (s : List ℕ) (start : ℕ) (t : List ℕ) {r : ℕ} {t′ : List ℕ} (h : 2 ^ 32 ≤ r) where
+-- the rows and the totals
+module _ (n : ℕ) (s : List ℕ) (start : ℕ) (t : Table) {r : ℕ} {t′ : Table} (h : 2 ^ 32 ≤ r) where
   pub hbc-functions : (count : ℕ) → count < 2 ^ 32 → ToldFunctions s n start count t r t′ → t′ ≡ t
   hbc-functions count k = by-layout (λ l. left (λ a e q. omega arith)) (λ p. p .1)
 
   pub hbc-refresh : (count low high : ℕ) → count < 2 ^ 32 → ToldRefresh s n start count low high t r t′ → t′ ≡ t
   hbc-refresh count low high k = by-layout (λ l. left (λ a e q. let z = small l a e in omega arith)) (λ p. p .1)
     where
-      small : (l : Layout) (x : ℕ) → refreshAnswer s l start count low high (length t) ≡ gives x → x < 2 ^ 32
+      small : (l : Layout) (x : ℕ) → refreshAnswer s l start count low high t ≡ gives x → x < 2 ^ 32
       small l x e =
-          let a = refreshable s l start count low high (length t) x e in
+          let a = refreshable s l start count low high t x e in
           let b : x ≡ countOf (meets s l start low high) count = scan-counts (meets s l start low high) (functionAt s l start) count x (a .scans) in
           omega (arith, count-le (meets s l start low high) count)
 
-  pub hbc-function : (i : ℕ) → ToldFunction s n start i t r t′ → t′ ≡ t
-  hbc-function i = by-layout (λ l. left (λ a e q. omega arith)) (λ p. p .1)
+pub hbc-function : (n : ℕ) (s : List ℕ) (start : ℕ) (t : List ℕ) {r : ℕ} {t′ : List ℕ} → 2 ^ 32 ≤ r → (i : ℕ) → ToldFunction s n start i t r t′ → t′ ≡ t
+hbc-function n s start t h i = by-layout (λ l. left (λ a e q. omega arith)) (λ p. p .1)
 
 pub hbc-write : (n : ℕ) (rows : List ℕ) (start count large : ℕ) (b : List ℕ) {r : ℕ} {b′ : List ℕ} → 2 ^ 32 ≤ r → ToldWrite rows n start count large b r b′
     → b′ ≡ b

@@ -1,7 +1,6 @@
 -- Each exported call leaves one outcome: what the call behind it leaves is one, and so is its number.
 use Prim.Native.Nat.{ℕ}
 use mathlib.Core.Path.{_≡_, refl}
-use mathlib.Core.List.{List}
 use mathlib.Core.Bool.{Bool}
 use Rattle.hbc_io.specs.Outcome.{Outcome}
 use Rattle.hbc_io.specs.declared.Span.{Span}
@@ -12,7 +11,7 @@ use Rattle.hbc_c_code.proofs.Tolds as told
 use Rattle.hbc_c_io.specs.Io.{ReadsSpan, Marked}
 use Rattle.hbc_c_function.proofs.ByLayouts.{alone-by}
 use Rattle.hbc_claims_law.proofs.Law.{same}
-use Rattle.hbc_claims_function.proofs.Unique.{one-reading, one-refreshed, one-wrote}
+use Rattle.hbc_claims_function.proofs.Unique.{one-reading, one-refreshed, one-wrote, table-parts}
 use Rattle.hbc_table_strings.proofs.Alone.{oneDecoded}
 use Rattle.hbc_text_forms.proofs.Alone.{oneText}
 use Rattle.hbc_claims_buffer.proofs.Unique.{oneSeries, both}
@@ -58,8 +57,8 @@ unique = record {
   hbc_read_bytes = λ k a r q s u. span-one;
   hbc_read_cstring = λ k a r q s u. span-one;
   hbc_read_length_prefixed_string = (λ k a r q s u e f. span-one (e .promised) (f .promised), λ k a r q s u. mark-one);
-  hbc_read_functions = λ k a r q s u. alone-by (λ l. told.alone (λ x y. alone one-reading));
-  hbc_refresh_functions = λ k a r q s u. alone-by (λ l. told.alone (λ x y. alone one-refreshed));
+  hbc_read_functions = λ k a r q s u v w. table-parts (alone-by (λ l. told.alone (λ x y. alone one-reading)) v w);
+  hbc_refresh_functions = λ k a r q s u v w. table-parts (alone-by (λ l. told.alone (λ x y. alone one-refreshed)) v w);
   hbc_write_functions = λ k a r q s u. alone-by (λ l. told.alone (λ x y. alone one-wrote));
   hbc_read_function = λ k a r q s u. alone-by (λ l. told.alone (λ x y. alone (λ v w e. e)));
   hbc_function_ground = λ k a r q s u. alone-by (λ l v w. (same (v .says) (w .says), same (v .holds) (w .holds)));

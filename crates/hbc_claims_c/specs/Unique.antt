@@ -63,8 +63,9 @@ pub record Unique : Type 0 where
   pub hbc_read_length_prefixed_string :
       Both3 of-read-length-prefixed-string.Learnt (λ s. now (s .1 .0)) (λ s. now (s .1 .1 .0)) (λ s. now (s .1 .1 .1 .0))
       × Words of-read-length-prefixed-string.Learnt (λ s. now (s .1 .1 .1 .1 .0))
-  pub hbc_read_functions : Both of-read-functions.Learnt (λ s. now (s .1 .1 .1 .1 .0))
-  pub hbc_refresh_functions : Both of-refresh-functions.Learnt (λ s. now (s .1 .1 .1 .1 .1 .1 .0))
+  pub hbc_read_functions : Both3 of-read-functions.Learnt (λ s. now (s .1 .1 .1 .1 .0)) (λ s. now (s .1 .1 .1 .1 .1 .0)) (λ s. now (s .1 .1 .1 .1 .1 .1 .0))
+  pub hbc_refresh_functions :
+      Both3 of-refresh-functions.Learnt (λ s. now (s .1 .1 .1 .1 .1 .1 .0)) (λ s. now (s .1 .1 .1 .1 .1 .1 .1 .0)) (λ s. now (s .1 .1 .1 .1 .1 .1 .1 .1 .0))
   pub hbc_write_functions : Both of-write-functions.Learnt (λ s. now (s .1 .1 .1 .1 .1 .0))
   pub hbc_read_function : Both of-read-function.Learnt (λ s. now (s .1 .1 .1 .1 .0))
   pub hbc_function_ground : Both of-function-ground.Learnt (λ s. places (now (s .1 .1 .1 .1 .0)) (now (s .1 .1 .1 .1 .1 .0)))

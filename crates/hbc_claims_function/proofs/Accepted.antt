@@ -5,11 +5,13 @@ use mathlib.Core.List.{List}
 use Rattle.hbc_io.specs.declared.Refusal.{Refusal}
 use Rattle.hbc_function_record.specs.declared.Layout.{Layout}
 use Rattle.hbc_function_header.specs.declared.Reading.the-variants as reading
-use Rattle.hbc_io.specs.Answer.{Answer, gives, refuses, asked}
+use Rattle.hbc_io.specs.Answer.{Answer, gives, refuses, asked, andThen}
 use Rattle.hbc_function_header.specs.Header.{functionAt, FunctionRow}
 use Rattle.hbc_function.specs.declared.Refreshed.the-variants as refreshed
-use Rattle.hbc_function.specs.Table.{scan, all, readAnswer, ReadFunctions}
-use Rattle.hbc_function.specs.Refresh.{refreshAnswer, RefreshFunctions}
+use Rattle.hbc_function_header.specs.Meets.{meets}
+use Rattle.hbc_function_totals.specs.declared.Totals.{Totals}
+use Rattle.hbc_function.specs.Table.{scan, all, Table, readAnswer, ReadFunctions}
+use Rattle.hbc_function.specs.Refresh.{keptMet, ifKept, refreshAnswer, RefreshFunctions}
 use Rattle.hbc_io.proofs.Exits.{not-given, reached}
 use Rattle.hbc_rows.specs.Rows.{rowAt}
 use Rattle.hbc_function_record.specs.Row.{width}
@@ -31,17 +33,23 @@ accepted s layout start count words e =
     let w = un-asked (scan all (functionAt s layout start) count) (r .1) in
     record { short = p .0; begins = q .0; holds = r .0; number = w .0; scans = w .1 }
 
-pub refreshable : (s : List ℕ) (layout : Layout) (start count low high words k : ℕ) → refreshAnswer s layout start count low high words ≡ gives k
-    → Refreshable s layout start count low high words k
+un-kept : (a : Answer ℕ) (b : Answer Totals) (k : ℕ) → andThen a (λ n. ifKept n b) ≡ gives k → (a ≡ gives k) × ((now : Totals) × (b ≡ gives now))
+un-kept (gives n) (gives t) k e = (e, (t, refl))
+un-kept (gives n) (refuses x) k e = absurd (not-given e)
+un-kept (refuses x) b k e = absurd (not-given e)
+
+pub refreshable : (s : List ℕ) (layout : Layout) (start count low high : ℕ) (t : Table) (k : ℕ) → refreshAnswer s layout start count low high t ≡ gives k
+    → Refreshable s layout start count low high t k
 unfolding refreshAnswer
-refreshable s layout start count low high words k e =
+refreshable s layout start count low high t k e =
     let a = reached _ _ _ _ not-given e in
     let b = reached _ _ _ _ not-given (a .1) in
     let c = reached _ _ _ _ not-given (b .1) in
     let d = reached _ _ _ _ not-given (c .1) in
     let f = reached _ _ _ _ not-given (d .1) in
     let g = reached _ _ _ _ not-given (f .1) in
-    record { short = a .0; holds = f .0; scans = g .1 }
+    let u = un-kept (scan (meets s layout start low high) (functionAt s layout start) count) (keptMet s layout start low high t count) k (g .1) in
+    record { short = a .0; begins = b .0; rises = c .0; ends = d .0; holds = f .0; fits = g .0; scans = u .0; now = u .1 .0; keeps = u .1 .1 }
 
 -- ---- a write
 
@@ -72,10 +80,10 @@ writable rows layout start count large b e h =
 
 -- ---- a refusal leaves the table
 
-pub read-left : (s : List ℕ) (layout : Layout) (start count : ℕ) {x : Refusal} {t t′ : List ℕ} → ReadFunctions s layout start count t (reading.Refused x) t′ → t′ ≡ t
+pub read-left : (s : List ℕ) (layout : Layout) (start count : ℕ) {x : Refusal} {t t′ : Table} → ReadFunctions s layout start count t (reading.Refused x) t′ → t′ ≡ t
 read-left s layout start count p = p .leaves
 
-pub was-left : (s : List ℕ) (layout : Layout) (start count low high : ℕ) {x : Refusal} {t t′ : List ℕ} → RefreshFunctions s layout start count low high t (refreshed.Refused x) t′
+pub was-left : (s : List ℕ) (layout : Layout) (start count low high : ℕ) {x : Refusal} {t t′ : Table} → RefreshFunctions s layout start count low high t (refreshed.Refused x) t′
     → t′ ≡ t
 was-left s layout start count low high p = p .leaves
 

@@ -6,7 +6,9 @@ pub mod Accepted
 pub mod Rows
 pub mod Meeting
 pub mod Tables
+pub mod Totals
 pub mod Refreshed
+pub mod Stops
 pub mod Packed
 pub mod Places
 pub mod Headers

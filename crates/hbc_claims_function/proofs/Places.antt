@@ -23,7 +23,8 @@ use Rattle.hbc_function_header.specs.declared.Where.the-variants as wh
 use Rattle.hbc_function_header.specs.Header.{headerAt, groundOf, whereOf, whereAt, largeFound, found, recordAt, functionAt, readFunction, rowOf, rowAnswer, FunctionRow}
 use Rattle.hbc_function_header.specs.Meets.{meets}
 use Rattle.hbc_function.specs.declared.Refreshed.the-variants as refreshed
-use Rattle.hbc_function.specs.Table.{scan, putRows, all, ReadFunctions}
+use Rattle.hbc_function.proofs.Laws.{row-at}
+use Rattle.hbc_function.specs.Table.{scan, putRows, all, Table, ReadFunctions}
 use Rattle.hbc_function.specs.Refresh.{RefreshFunctions}
 use Rattle.hbc_function_write.proofs.Places.{large-some}
 use Rattle.hbc_claims_law.specs.Terms.{flagged, packedAt}
@@ -32,7 +33,6 @@ use Rattle.hbc_claims_function.proofs.Rows.{named-row}
 use Rattle.hbc_claims_function.proofs.Packed as packs
 use Rattle.hbc_claims_function.proofs.Function.{ends}
 use Rattle.hbc_claims_function.proofs.Scans.{a-record, scan-each}
-use Rattle.hbc_claims_function.proofs.Words.{row-at}
 use Rattle.hbc_claims_function.proofs.Accepted.{accepted, refreshable}
 
 -- a large header that is found is in the file
@@ -122,18 +122,18 @@ module _ (s : List ℕ) (layout : Layout) (start i : ℕ) (small : length s ≤ 
 
 -- ---- the calls
 
-pub place-read : (s : List ℕ) (layout : Layout) (start count : ℕ) (t t′ : List ℕ) → ReadFunctions s layout start count t reading.Read t′ → (i : ℕ) → i < count
-    → Tells s layout (headerAt layout start i) i (rowAt width t′ i)
+pub place-read : (s : List ℕ) (layout : Layout) (start count : ℕ) (t t′ : Table) → ReadFunctions s layout start count t reading.Read t′ → (i : ℕ) → i < count
+    → Tells s layout (headerAt layout start i) i (rowAt width (t′ .rows) i)
 place-read s layout start count t t′ v i l =
-    let a = accepted s layout start count (length t) (sym (v .says)) in
-    rw (v .leaves) (row-tells s layout start i (a .short) all count (a .number) t (a .holds) (a .scans) l refl)
+    let a = accepted s layout start count (length (t .rows)) (sym (v .says)) in
+    rw (ap (λ (x : Table). x .rows) (v .leaves)) (row-tells s layout start i (a .short) all count (a .number) (t .rows) (a .holds) (a .scans) l refl)
 
-pub place-refreshed : (s : List ℕ) (layout : Layout) (start count low high k : ℕ) (t t′ : List ℕ)
+pub place-refreshed : (s : List ℕ) (layout : Layout) (start count low high k : ℕ) (t t′ : Table)
     → RefreshFunctions s layout start count low high t (refreshed.Done k) t′ → (i : ℕ) → i < count → meets s layout start low high i ≡ true
-    → Tells s layout (headerAt layout start i) i (rowAt width t′ i)
+    → Tells s layout (headerAt layout start i) i (rowAt width (t′ .rows) i)
 place-refreshed s layout start count low high k t t′ v i l m =
-    let a = refreshable s layout start count low high (length t) k (sym (v .says)) in
-    rw (v .leaves) (row-tells s layout start i (a .short) (meets s layout start low high) count k t (a .holds) (a .scans) l m)
+    let a = refreshable s layout start count low high t k (sym (v .says)) in
+    rw (ap (λ (x : Table). x .rows) (v .leaves)) (row-tells s layout start i (a .short) (meets s layout start low high) count k (t .rows) (a .holds) (a .scans) l m)
 
 pub place-row : (s : List ℕ) (layout : Layout) (start i : ℕ) (t t′ : List ℕ) → FunctionRow s layout start i t reading.Read t′
     → Tells s layout (headerAt layout start i) i t′

@@ -7,27 +7,34 @@ use native.Mathlib.Omega.{arith}
 use lib.ListN.{length, getD}
 use lib.Seq.{ext-getD}
 use lib.Dec.{ltb}
-use borrow.Author.Tests.{ltb-true, ltb-false}
+use borrow.Author.Tests.{ltb-true, ltb-false, le-ltb}
+use Rattle.hbc_bits.proofs.Laws.{Bytes}
 use Rattle.hbc_io.specs.Outcome.{limit}
 use Rattle.hbc_function_record.specs.declared.Layout.{Layout}
 use Rattle.hbc_function_record.specs.declared.Found.{Found}
 use Rattle.hbc_function_header.specs.declared.Reading.{Reading}
 use Rattle.hbc_function_header.specs.declared.Reading.the-variants as reading
-use Rattle.hbc_io.specs.Answer.{Answer, gives, asked}
+use Rattle.hbc_io.specs.Answer.{Answer, gives, refuses, asked, andThen}
+use Rattle.hbc_io.specs.Lends.{below}
 use Rattle.hbc_io.proofs.Exits.{not-given}
 use Rattle.hbc_function_header.specs.Header.{saysReading, functionAt}
 use Rattle.hbc_function_record.specs.Row.{width}
 use Rattle.hbc_function_header.specs.Meets.{meets}
+use Rattle.hbc_function_totals.specs.declared.Totals.{Totals}
 use Rattle.hbc_function.specs.declared.Refreshed.{Refreshed}
 use Rattle.hbc_function.specs.declared.Refreshed.the-variants as refreshed
-use Rattle.hbc_function.specs.Table.{scan, putRows, all, readAnswer, ReadFunctions}
-use Rattle.hbc_function.specs.Refresh.{saysRefreshed, held, refreshAnswer, RefreshFunctions}
-use Rattle.hbc_function.proofs.Laws.{put-length, scanned, met}
+use Rattle.hbc_function.specs.Table.{scan, putRows, all, Table, readAnswer, ReadFunctions}
+use Rattle.hbc_function.specs.Refresh.{saysRefreshed, held, keptMet, ifKept, refreshAnswer, RefreshFunctions}
+use Rattle.hbc_function.proofs.Laws.{put-length, scanned, word-at}
+use Rattle.hbc_function.proofs.Sums.{held-short}
 use Rattle.hbc_claims_law.specs.Terms.{Same}
 use Rattle.hbc_claims_function.proofs.Function.{function-same}
-use Rattle.hbc_claims_function.proofs.Words.{word-at, word-kept, word-past}
+use Rattle.hbc_claims_function.proofs.Words.{word-kept, word-past}
 use Rattle.hbc_claims_function.proofs.Scans.{a-record, scan-each, alike, all-held}
 use Rattle.hbc_claims_function.proofs.Accepted.{accepted, refreshable}
+use Rattle.hbc_claims_function.proofs.Totals.{true-same, totals-read, totals-kept, kept-true}
+use Rattle.hbc_claims_function.specs.Totals.{True}
+use Rattle.hbc_claims_function.specs.Written.{Words}
 use Rattle.hbc_claims_function.specs.Refreshed.{AsFresh}
 
 -- ---- the answers
@@ -36,18 +43,35 @@ held-same : (a b : List ℕ) (layout : Layout) (start count : ℕ) → length a 
 unfolding held
 held-same a b layout start count e k = rw (← e) k
 
+-- past every test: what is scanned, and whether the totals can be kept, is the answer
+pub past-tests : (s : List ℕ) (layout : Layout) (start count low high : ℕ) (t : Table) → length s ≤ limit → start ≤ length s → low ≤ high → high ≤ length s
+    → count * width ≤ length (t .rows) → count ≤ held s layout start
+    → andThen (scan (meets s layout start low high) (functionAt s layout start) count) (λ n. ifKept n (keptMet s layout start low high t count))
+    ≡ refreshAnswer s layout start count low high t
+unfolding refreshAnswer below
+past-tests s layout start count low high t a b c d f g = sym (simp (le-ltb _ _ a, le-ltb _ _ b, le-ltb _ _ c, le-ltb _ _ d, le-ltb _ _ f, le-ltb _ _ g))
+
+-- totals that are kept refuse nothing
+kept-asked : (a : Answer ℕ) (k : Answer Totals) {now : Totals} → k ≡ gives now → asked (andThen a (λ n. ifKept n k)) ≡ asked a
+kept-asked (gives n) k e = ap (λ (x : Answer Totals). asked (ifKept n x)) e
+kept-asked (refuses x) k e = refl
+
 -- a fresh read of b answers as the refresh does, but for the count
-pub same-answer : {a b : List ℕ} {low high : ℕ} → Same a b low high → low ≤ high → high ≤ length b → (layout : Layout) (start count words : ℕ)
-    → readAnswer a layout start count words ≡ gives tt
-    → readAnswer b layout start count words ≡ asked (refreshAnswer b layout start count low high words)
-same-answer {a} {b} {low} {high} v l h layout start count words e =
+pub same-answer : {a b : List ℕ} {low high : ℕ} → Same a b low high → low ≤ high → high ≤ length b → (layout : Layout) (start count words : ℕ) (t : Table)
+    → Bytes b → Words (t .rows) → True t count → length (t .rows) ≡ words → readAnswer a layout start count words ≡ gives tt
+    → readAnswer b layout start count words ≡ asked (refreshAnswer b layout start count low high t)
+same-answer {a} {b} {low} {high} v l h layout start count words t bytes w y n e =
     let p = accepted a layout start count words e in
     let h1 : length b ≤ limit = rw (← v .long) (p .short) in
     let h2 : start ≤ length b = rw (← v .long) (p .begins) in
     let h6 : count ≤ held b layout start = held-same a b layout start count (v .long) (all-held a layout start count (p .number) (p .begins) (p .scans)) in
+    let h7 = held-short b layout start in
+    let h5 : count * width ≤ length (t .rows) = rw n (p .holds) in
+    let k = kept-true b layout start count low high t bytes w y (omega arith) in
     sym (scanned b layout start count words h1 h2 (p .holds))
     ∙ alike (meets b layout start low high) (functionAt a layout start) (functionAt b layout start) (λ i m. function-same v i layout start m) count (p .number) (p .scans)
-    ∙ ap asked (met b layout start count low high words h1 h2 l h (p .holds) h6)
+    ∙ sym (kept-asked (scan (meets b layout start low high) (functionAt b layout start) count) (keptMet b layout start low high t count) (k .1))
+    ∙ ap asked (past-tests b layout start count low high t h1 h2 l h h5 h6)
 
 -- ---- the tables
 
@@ -85,17 +109,25 @@ module _ (chosen : ℕ → Bool) (fa fb : ℕ → Answer Found) (same : (i : ℕ
       (put-length chosen fb (putRows all fa t n) n ∙ put-length all fa t n ∙ sym (put-length all fb t n))
       (λ j l. over-word j)
 
--- ---- the theorem, over the promises alone
+-- ---- the theorem, over the promises alone: t₀ is what the read of a leaves, t₁ its rows with true totals
 
-module _ {a b : List ℕ} {low high : ℕ} (v : Same a b low high) (layout : Layout) (start count : ℕ) {t t₁ t₂ t₃ : List ℕ}
-    (p : ReadFunctions a layout start count t reading.Read t₁) where
+rows-by : (a : List ℕ) (layout : Layout) (start count : ℕ) {t t₀ : Table} {rows : List ℕ} → ReadFunctions a layout start count t reading.Read t₀ → rows ≡ t₀ .rows
+    → rows ≡ putRows all (functionAt a layout start) (t .rows) count
+rows-by a layout start count p e = e ∙ ap (λ (x : Table). x .rows) (p .leaves)
+
+module _ {a b : List ℕ} {low high : ℕ} (v : Same a b low high) (layout : Layout) (start count : ℕ) {t t₀ t₁ t₂ t₃ : Table}
+    (p : ReadFunctions a layout start count t reading.Read t₀) (rows : t₁ .rows ≡ t₀ .rows) (true-before : True t₁ count) where
   refreshed-is : {n : ℕ} → ReadFunctions b layout start count t reading.Read t₂ → RefreshFunctions b layout start count low high t₁ (refreshed.Done n) t₃ → t₃ ≡ t₂
   refreshed-is {n} f g =
-      let x = accepted a layout start count (length t) (sym (p .says)) in
-      let y = refreshable b layout start count low high (length t₁) n (sym (g .says)) in
-      g .leaves ∙ ap (λ (u : List ℕ). putRows (meets b layout start low high) (functionAt b layout start) u count) (p .leaves)
-      ∙ over (meets b layout start low high) (functionAt a layout start) (functionAt b layout start) (λ i m. function-same v i layout start m) count n (x .number) (y .scans) (x .scans) t (x .holds)
-      ∙ sym (f .leaves)
+      let x = accepted a layout start count (length (t .rows)) (sym (p .says)) in
+      let y = refreshable b layout start count low high t₁ n (sym (g .says)) in
+      true-same
+      (ap (λ (u : Table). u .rows) (g .leaves)
+      ∙ ap (λ (u : List ℕ). putRows (meets b layout start low high) (functionAt b layout start) u count) (rows-by a layout start count p rows)
+      ∙ over (meets b layout start low high) (functionAt a layout start) (functionAt b layout start) (λ i m. function-same v i layout start m) count n (x .number) (y .scans)
+      (x .scans) (t .rows) (x .holds)
+      ∙ sym (ap (λ (u : Table). u .rows) (f .leaves)))
+      (totals-kept b layout start count low high n t₁ t₃ g true-before) (totals-read b layout start count t t₂ f)
 
   by-case : (r : Reading) (q : Refreshed) → saysReading r ≡ asked (saysRefreshed q) → ReadFunctions b layout start count t r t₂
       → RefreshFunctions b layout start count low high t₁ q t₃ → AsFresh r t₂ t₁ q t₃
@@ -115,14 +147,12 @@ module _ {a b : List ℕ} {low high : ℕ} (v : Same a b low high) (layout : Lay
   by-case (reading.Refused y) (refreshed.Done n) e f g = absurd (not-given e)
 
   -- one equation for the four directions
-  pub answers : {r : Reading} {q : Refreshed} → low ≤ high → high ≤ length b → ReadFunctions b layout start count t r t₂
+  pub answers : {r : Reading} {q : Refreshed} → low ≤ high → high ≤ length b → Bytes b → Words (t₁ .rows) → ReadFunctions b layout start count t r t₂
       → RefreshFunctions b layout start count low high t₁ q t₃ → saysReading r ≡ asked (saysRefreshed q)
-  answers l h f g =
-      let x = accepted a layout start count (length t) (sym (p .says)) in
-      let n : length t₁ ≡ length t = ap length (p .leaves) ∙ put-length all (functionAt a layout start) t count in
-      f .says ∙ same-answer v l h layout start count (length t) (sym (p .says))
-      ∙ ap (λ (m : ℕ). asked (refreshAnswer b layout start count low high m)) (sym n) ∙ ap asked (sym (g .says))
+  answers l h bytes w f g =
+      let n : length (t₁ .rows) ≡ length (t .rows) = ap length (rows-by a layout start count p rows) ∙ put-length all (functionAt a layout start) (t .rows) count in
+      f .says ∙ same-answer v l h layout start count (length (t .rows)) t₁ bytes w true-before n (sym (p .says)) ∙ ap asked (sym (g .says))
 
-  pub refreshed-as-fresh : {r : Reading} {q : Refreshed} → low ≤ high → high ≤ length b → ReadFunctions b layout start count t r t₂
+  pub refreshed-as-fresh : {r : Reading} {q : Refreshed} → low ≤ high → high ≤ length b → Bytes b → Words (t₁ .rows) → ReadFunctions b layout start count t r t₂
       → RefreshFunctions b layout start count low high t₁ q t₃ → AsFresh r t₂ t₁ q t₃
-  refreshed-as-fresh {r} {q} l h f g = by-case r q (answers l h f g) f g
+  refreshed-as-fresh {r} {q} l h bytes w f g = by-case r q (answers l h bytes w f g) f g

@@ -4,6 +4,7 @@ use mathlib.Core.Path.{_≡_, refl, ap, sym, _∙_}
 use mathlib.Core.List.{List}
 use mathlib.Core.Bool.{Bool, true, false, cond}
 use native.Mathlib.Omega.{arith}
+use native.Mathlib.Decide.{le-ind}
 use native.Mathlib.Nat.{le-div-iff-mul-le, add-mul, one-mul}
 use lib.ListN.{length}
 use lib.Dec.{eqb}
@@ -78,6 +79,11 @@ module _ (chosen : ℕ → Bool) (f : ℕ → Answer Found) where
   pub scan-each : (n k i : ℕ) → i < n → scan chosen f n ≡ gives k → chosen i ≡ true → asked (f i) ≡ gives tt
   scan-each zero k i h e p = absurd (omega arith)
   scan-each (suc n) k i h e p = each-by n k i h e p (λ m l q. scan-each n m i l q p) (eqb i n) refl
+
+  -- and so was the scan of fewer
+  pub scan-front : (i n k : ℕ) → i ≤ n → scan chosen f n ≡ gives k → (m : ℕ) × (scan chosen f i ≡ gives m)
+  scan-front i n k h e =
+      le-ind (λ (j : ℕ). (l : ℕ) → scan chosen f j ≡ gives l → (m : ℕ) × (scan chosen f i ≡ gives m)) (λ l q. (l, q)) (λ j o p l q. let b = scan-before j l q in p (b .0) (b .1)) n h k e
 
   pub scan-counts : (n k : ℕ) → scan chosen f n ≡ gives k → k ≡ countOf chosen n
   unfolding scan countOf

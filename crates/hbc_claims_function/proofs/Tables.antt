@@ -1,6 +1,6 @@
 -- What an accepted call leaves, from its promise.
 use Prim.Native.Nat.{ℕ, _+_, _*_, _≤_, _<_}
-use mathlib.Core.Path.{_≡_, refl, sym}
+use mathlib.Core.Path.{_≡_, refl, sym, ap}
 use mathlib.Core.List.{List}
 use mathlib.Core.Bool.{Bool, true}
 use lib.ListN.{length, getD}
@@ -11,10 +11,10 @@ use Rattle.hbc_function_header.specs.Header.{functionAt}
 use Rattle.hbc_function_record.specs.Row.{width}
 use Rattle.hbc_function_header.specs.Meets.{meets}
 use Rattle.hbc_function.specs.declared.Refreshed.the-variants as refreshed
-use Rattle.hbc_function.proofs.Laws.{put-length}
-use Rattle.hbc_function.specs.Table.{putRows, all, scan, ReadFunctions}
+use Rattle.hbc_function.proofs.Laws.{put-length, word-at}
+use Rattle.hbc_function.specs.Table.{putRows, all, scan, Table, ReadFunctions}
 use Rattle.hbc_function.specs.Refresh.{RefreshFunctions}
-use Rattle.hbc_claims_function.proofs.Words.{word-at, word-kept, word-behind}
+use Rattle.hbc_claims_function.proofs.Words.{word-kept, word-behind}
 use Rattle.hbc_claims_function.proofs.Scans.{a-record, scan-each, scan-counts}
 use Rattle.hbc_claims_function.proofs.Accepted.{accepted, refreshable}
 use Rattle.hbc_claims_law.specs.Terms.{RowWord}
@@ -28,22 +28,23 @@ row-word chosen s layout start n k t h e i c l p q =
     let r = a-record (f i) (scan-each chosen f n k i l e p) in
     record { read-as = r .0; found = r .1; is = word-at chosen f t n i c (r .0) h l q p (r .1) }
 
-pub filled : {s : List ℕ} {layout : Layout} {start count : ℕ} {t t′ : List ℕ} → ReadFunctions s layout start count t reading.Read t′ → Filled s layout start count t t′
+pub filled : {s : List ℕ} {layout : Layout} {start count : ℕ} {t t′ : Table} → ReadFunctions s layout start count t reading.Read t′
+    → Filled s layout start count (t .rows) (t′ .rows)
 filled {s} {layout} {start} {count} {t} {t′} p =
-    let a = accepted s layout start count (length t) (sym (p .says)) in
-    rw (p .leaves) (record {
-      rows = λ i c l q. row-word all s layout start count (a .number) t (a .holds) (a .scans) i c l refl q;
-      behind = record { rest = word-behind all (functionAt s layout start) t count; long = put-length all (functionAt s layout start) t count };
+    let a = accepted s layout start count (length (t .rows)) (sym (p .says)) in
+    rw (ap (λ (x : Table). x .rows) (p .leaves)) (record {
+      rows = λ i c l q. row-word all s layout start count (a .number) (t .rows) (a .holds) (a .scans) i c l refl q;
+      behind = record { rest = word-behind all (functionAt s layout start) (t .rows) count; long = put-length all (functionAt s layout start) (t .rows) count };
     })
 
-pub rewritten : {s : List ℕ} {layout : Layout} {start count low high k : ℕ} {t t′ : List ℕ} → RefreshFunctions s layout start count low high t (refreshed.Done k) t′
-    → Rewritten s layout start count low high t k t′
+pub rewritten : {s : List ℕ} {layout : Layout} {start count low high k : ℕ} {t t′ : Table} → RefreshFunctions s layout start count low high t (refreshed.Done k) t′
+    → Rewritten s layout start count low high (t .rows) k (t′ .rows)
 rewritten {s} {layout} {start} {count} {low} {high} {k} {t} {t′} p =
-    let a = refreshable s layout start count low high (length t) k (sym (p .says)) in
+    let a = refreshable s layout start count low high t k (sym (p .says)) in
     let m = meets s layout start low high in
-    rw (p .leaves) (record {
+    rw (ap (λ (x : Table). x .rows) (p .leaves)) (record {
       counts = scan-counts m (functionAt s layout start) count k (a .scans);
-      met = row-word m s layout start count k t (a .holds) (a .scans);
-      unmet = λ i c e q. word-kept m (functionAt s layout start) t count i c q e;
-      behind = record { rest = word-behind m (functionAt s layout start) t count; long = put-length m (functionAt s layout start) t count };
+      met = row-word m s layout start count k (t .rows) (a .holds) (a .scans);
+      unmet = λ i c e q. word-kept m (functionAt s layout start) (t .rows) count i c q e;
+      behind = record { rest = word-behind m (functionAt s layout start) (t .rows) count; long = put-length m (functionAt s layout start) (t .rows) count };
     })

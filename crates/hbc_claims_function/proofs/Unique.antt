@@ -1,6 +1,6 @@
 -- Each call leaves one outcome: its promise fixes the answer and every lent word.
 use Prim.Native.Nat.{ℕ}
-use mathlib.Core.Path.{_≡_, refl, sym}
+use mathlib.Core.Path.{_≡_, refl, sym, ap, _∙_}
 use native.Mathlib.Omega.{arith}
 use Rattle.hbc_io.proofs.Exits.{alone, not-given}
 use Rattle.hbc_function_record.specs.Row.{foundAt}
@@ -16,7 +16,11 @@ use Rattle.hbc_function_header.specs.Header.{saysFunction, saysReading, saysGro
 use Rattle.hbc_function_header.specs.Meets.{saysMeeting}
 use Rattle.hbc_function.specs.declared.Refreshed.{Refreshed}
 use Rattle.hbc_function.specs.declared.Refreshed.the-variants as refreshed
+use Rattle.hbc_function.specs.Table.{Table}
 use Rattle.hbc_function.specs.Refresh.{saysRefreshed}
+use Rattle.hbc_function_totals.specs.declared.Kept.{Kept}
+use Rattle.hbc_function_totals.specs.declared.Kept.the-variants as kept
+use Rattle.hbc_function_totals.specs.Totals.{saysKept}
 use Rattle.hbc_function_write.specs.declared.Wrote.{Wrote}
 use Rattle.hbc_function_write.specs.declared.Wrote.the-variants as wrote
 use Rattle.hbc_function_write.specs.Write.{saysWrote}
@@ -65,6 +69,16 @@ one-wrote (wrote.Refused r) (wrote.Refused q) e = cc
 one-wrote (wrote.To r) (wrote.Refused q) e = absurd (not-given (sym e))
 one-wrote (wrote.Refused r) (wrote.To q) e = absurd (not-given e)
 
+pub one-kept : (a b : Kept) → saysKept a ≡ saysKept b → a ≡ b
+one-kept (kept.Now r) (kept.Now q) e = cc
+one-kept (kept.Refused r) (kept.Refused q) e = cc
+one-kept (kept.Now r) (kept.Refused q) e = absurd (not-given (sym e))
+one-kept (kept.Refused r) (kept.Now q) e = absurd (not-given e)
+
+-- a table is its rows and its two totals
+pub table-parts : {A : Type 0} {t u : Table} → A × (t ≡ u) → A × (t .rows ≡ u .rows) × (t .totals .large ≡ u .totals .large) × (t .totals .sizes ≡ u .totals .sizes)
+table-parts p = (p .0, ap (λ (x : Table). x .rows) (p .1), ap (λ (x : Table). x .totals .large) (p .1), ap (λ (x : Table). x .totals .sizes) (p .1))
+
 pub unique : Unique
 unique = record {
   header_size = λ k a r q s u. same;
@@ -83,8 +97,10 @@ unique = record {
   function_row = λ k a r q s u. alone one-reading;
   function_ground = λ k a r q s u e f. one-grounded r q (same e f);
   function_meets = λ k a r q s u e f. one-meeting r q (same e f);
-  read_functions = λ k a r q s u. alone one-reading;
-  refresh_functions = λ k a r q s u. alone one-refreshed;
+  share_of = λ k a r q s u. same;
+  exchange = λ k a r q s u e f. one-kept r q (e ∙ sym f);
+  read_functions = λ k a r q s u v w. table-parts (alone one-reading v w);
+  refresh_functions = λ k a r q s u v w. table-parts (alone one-refreshed v w);
   row_is_right = λ k a r q s u. same;
   inline_words = λ k a r q s u. same;
   pointer_words = λ k a r q s u. same;

@@ -4,37 +4,18 @@ use mathlib.Core.Path.{_≡_, refl, ap, sym, _∙_}
 use mathlib.Core.List.{List, []}
 use mathlib.Core.Bool.{Bool, true, false}
 use native.Mathlib.Omega.{arith}
-use native.Mathlib.Nat.{zero-add}
-use lib.ListN.{length, getD}
+use lib.ListN.{getD}
 use lib.Dec.{eqb}
 use borrow.Author.Tests.{eqb-true, eqb-false}
-use Rattle.hbc_io.specs.Answer.{Answer, gives}
+use Rattle.hbc_io.specs.Answer.{Answer}
 use Rattle.hbc_rows.specs.Rows as rows
-use Rattle.hbc_rows.specs.Rows.{rowAt}
-use Rattle.hbc_rows.proofs.RowsAt.{put-apart, rows-at, rows-apart, row-is}
+use Rattle.hbc_rows.proofs.RowsAt.{put-apart, rows-apart}
 use Rattle.hbc_function_record.specs.declared.Found.{Found}
-use Rattle.hbc_function_record.specs.Row.{width, rowWords}
-use Rattle.hbc_function_record.proofs.Rows.{words-length}
+use Rattle.hbc_function_record.specs.Row.{width}
 use Rattle.hbc_function.specs.Table.{rowIf, putRows}
-use Rattle.hbc_function.proofs.Laws.{short, put-nothing, put-length}
+use Rattle.hbc_function.proofs.Laws.{short, put-nothing}
 
 module _ (chosen : ℕ → Bool) (f : ℕ → Answer Found) (t : List ℕ) where
-  -- word c of a chosen function's row is that of what it is read as
-  pub word-at : (n i c : ℕ) (r : Found) → n * width ≤ length t → i < n → c < width → chosen i ≡ true → f i ≡ gives r
-      → getD (putRows chosen f t n) (i * width + c) 0 ≡ getD (rowWords r) c 0
-  unfolding putRows
-  word-at n i c r h k l p e =
-      let q : rowIf chosen f i ≡ rowWords r = rw (p, e) in
-      let z : 0 + i ≡ i = zero-add i in
-      ap (λ (j : ℕ). getD (rows.putRows width (rowIf chosen f) 0 n t) (j * width + c) 0) (sym z)
-      ∙ rows-at width (rowIf chosen f) (short chosen f) 0 t n i c k (rw (q, words-length r) l) (rw z (omega arith))
-      ∙ ap (λ (o : List ℕ). getD o c 0) q
-
-  -- and so the row is all of its words
-  pub row-at : (n i : ℕ) (r : Found) → n * width ≤ length t → i < n → chosen i ≡ true → f i ≡ gives r → rowAt width (putRows chosen f t n) i ≡ rowWords r
-  row-at n i r h k p e =
-      row-is width (putRows chosen f t n) i (rowWords r) (rw (put-length chosen f t n) (omega arith)) (words-length r) (λ c l. word-at n i c r h k l p e)
-
   kept-by : (n i c : ℕ) → c < width → chosen i ≡ false → getD (rows.putRows width (rowIf chosen f) 0 n t) (i * width + c) 0 ≡ getD t (i * width + c) 0
       → (b : Bool) → eqb i n ≡ b
       → getD (rows.putRow width (rows.putRows width (rowIf chosen f) 0 n t) (0 + n) (rowIf chosen f n)) (i * width + c) 0 ≡ getD t (i * width + c) 0

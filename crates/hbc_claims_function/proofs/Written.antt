@@ -20,8 +20,8 @@ use Rattle.hbc_function_record.specs.declared.Found.{Found}
 use Rattle.hbc_function_record.specs.Row.{width, recordWidth, inline, rowWords, foundAt}
 use Rattle.hbc_function_header.specs.declared.Reading.the-variants as reading
 use Rattle.hbc_function_header.specs.Header.{headerAt, largeFound, functionAt}
-use Rattle.hbc_function.specs.Table.{step, scan, putRows, all, readAnswer}
-use Rattle.hbc_function.proofs.Laws.{put-length, scanned}
+use Rattle.hbc_function.specs.Table.{step, scan, putRows, all, Table, summed, readAnswer}
+use Rattle.hbc_function.proofs.Laws.{put-length, scanned, row-at}
 use Rattle.hbc_function_bytes.specs.Bytes.{valuesIn, goesInline, pointerTo, rightRow}
 use Rattle.hbc_function_bytes.proofs.Sums.{infoOf}
 use Rattle.hbc_function_write.specs.Write.{rounded, freeAt, placeAt, endAt, tableEnd, headOf, rightEnd}
@@ -32,7 +32,7 @@ use Rattle.hbc_function_write.proofs.Turns.{headers-length}
 use Rattle.hbc_claims_law.specs.Terms.{Either, left, right, flagged, packedAt}
 use Rattle.hbc_claims_function.specs.Accepted.{Writable}
 use Rattle.hbc_claims_function.specs.Written.{Words, Written, backAt, ReadsBack, SameRecords, Headed, Kept, Placed}
-use Rattle.hbc_claims_function.proofs.Words.{row-at, word-behind}
+use Rattle.hbc_claims_function.proofs.Words.{word-behind}
 use Rattle.hbc_claims_function.proofs.Accepted.{writable}
 use Rattle.hbc_claims_function.proofs.Packed as packs
 use Rattle.hbc_claims_function.proofs.Headers.{recordBy, inline-stands, large-stands, pointer-fits, pointer-place, pointer-flagged, inline-fits, inline-own, inline-info, large-info, row-back, row-layable}
@@ -230,12 +230,13 @@ module _ {rows : List ℕ} {layout : Layout} {start count large : ℕ} {b : List
 
   pub reads-back : ReadsBack rows layout start count large b′
   reads-back t t′ r h v =
-      let a = read-accepts (length t) h in
+      let a = read-accepts (length (t .rows)) h in
       let g = functionAt b′ layout start in
-      let e : t′ ≡ putRows all g t count = words v ∙ rw a in (
+      let u : t′ ≡ summed (putRows all g (t .rows) count) count = words v ∙ rw a in
+      let e : t′ .rows ≡ putRows all g (t .rows) count = ap (λ (x : Table). x .rows) u in (
         one-reading r reading.Read (v .says ∙ a),
-        λ i l. ap (λ (u : List ℕ). rowAt width u i) e ∙ back-row t h i l,
-        rw e (record { rest = word-behind all g t count; long = put-length all g t count }),
+        λ i l. ap (λ (u : List ℕ). rowAt width u i) e ∙ back-row (t .rows) h i l,
+        rw e (record { rest = word-behind all g (t .rows) count; long = put-length all g (t .rows) count }),
       )
 
 -- the record's words of a row that is read back

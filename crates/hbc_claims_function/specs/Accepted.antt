@@ -10,7 +10,9 @@ use Rattle.hbc_io.specs.Answer.{gives}
 use Rattle.hbc_function_header.specs.Header.{functionAt}
 use Rattle.hbc_function_record.specs.Row.{width}
 use Rattle.hbc_function_header.specs.Meets.{meets}
-use Rattle.hbc_function.specs.Table.{scan, all}
+use Rattle.hbc_function_totals.specs.declared.Totals.{Totals}
+use Rattle.hbc_function.specs.Table.{scan, all, Table}
+use Rattle.hbc_function.specs.Refresh.{held, keptMet}
 use Rattle.hbc_rows.specs.Rows.{rowAt}
 use Rattle.hbc_function_bytes.specs.Bytes.{rightRow}
 use Rattle.hbc_function_write.specs.Write.{endAt, tableEnd, rightEnd}
@@ -22,10 +24,16 @@ pub record Accepted (s : List ℕ) (layout : Layout) (start count words : ℕ) :
   pub number : ℕ
   pub scans : scan all (functionAt s layout start) count ≡ gives number
 
-pub record Refreshable (s : List ℕ) (layout : Layout) (start count low high words k : ℕ) : Type 0 where
+pub record Refreshable (s : List ℕ) (layout : Layout) (start count low high : ℕ) (t : Table) (k : ℕ) : Type 0 where
   pub short : length s ≤ limit
-  pub holds : count * width ≤ words
+  pub begins : start ≤ length s
+  pub rises : low ≤ high
+  pub ends : high ≤ length s
+  pub holds : count * width ≤ length (t .rows)
+  pub fits : count ≤ held s layout start
   pub scans : scan (meets s layout start low high) (functionAt s layout start) count ≡ gives k
+  pub now : Totals
+  pub keeps : keptMet s layout start low high t count ≡ gives now
 
 pub record Writable (rows : List ℕ) (layout : Layout) (start count large : ℕ) (b : List ℕ) (e : ℕ) : Type 0 where
   pub short : length b ≤ limit

@@ -4,6 +4,7 @@ pub mod Accepted
 pub mod Tables
 pub mod Places
 pub mod Refreshed
+pub mod Totals
 pub mod Packed
 pub mod BitLayout
 pub mod Written

@@ -1,16 +1,15 @@
 -- docs/FORMAT.md, section 3.8: a refreshed table is a fresh one.
-use Prim.Native.Nat.{ℕ, _/_}
+use Prim.Native.Nat.{ℕ}
 use mathlib.Core.Path.{_≡_}
-use mathlib.Core.List.{List}
 use Rattle.hbc_io.specs.declared.Refusal.{Refusal}
 use Rattle.hbc_function_header.specs.declared.Reading.{Reading}
 use Rattle.hbc_function_header.specs.declared.Reading.the-variants as reading
-use Rattle.hbc_io.specs.Answer.{refuses}
+use Rattle.hbc_function.specs.Table.{Table}
 use Rattle.hbc_function.specs.declared.Refreshed.{Refreshed}
 use Rattle.hbc_function.specs.declared.Refreshed.the-variants as refreshed
 
--- r and t₂ are a fresh read's of b, q and t₃ the refresh's, t₁ the table that was refreshed
-pub record AsFresh (r : Reading) (t₂ t₁ : List ℕ) (q : Refreshed) (t₃ : List ℕ) : Type 0 where
+-- r and t₂ are a fresh read's of b, q and t₃ the refresh's, t₁ the table that was refreshed, each with its totals
+pub record AsFresh (r : Reading) (t₂ t₁ : Table) (q : Refreshed) (t₃ : Table) : Type 0 where
   -- where the fresh read is accepted the refresh is, and leaves the fresh table
   -- where it refuses, the refresh refuses with its number and place and leaves the table
   pub when-read : r ≡ reading.Read → (n : ℕ) × (q ≡ refreshed.Done n) × (t₃ ≡ t₂)

@@ -16,6 +16,8 @@ use Rattle.hbc_function_header.proofs.check_function.Reads as of-check-function
 use Rattle.hbc_function_header.proofs.function_row.Reads as of-function-row
 use Rattle.hbc_function_header.proofs.function_ground.Reads as of-function-ground
 use Rattle.hbc_function_header.proofs.function_meets.Reads as of-function-meets
+use Rattle.hbc_function_totals.proofs.share_of.Reads as of-share-of
+use Rattle.hbc_function_totals.proofs.exchange.Reads as of-exchange
 use Rattle.hbc_function.proofs.read_functions.Reads as of-read-functions
 use Rattle.hbc_function.proofs.refresh_functions.Reads as of-refresh-functions
 use Rattle.hbc_function_bytes.proofs.row_is_right.Reads as of-row-is-right
@@ -24,7 +26,7 @@ use Rattle.hbc_function_bytes.proofs.pointer_words.Reads as of-pointer-words
 use Rattle.hbc_function_put.proofs.put_header.Reads as of-put-header
 use Rattle.hbc_function_put.proofs.put_large.Reads as of-put-large
 use Rattle.hbc_function_write.proofs.write_functions.Reads as of-write-functions
-use Rattle.hbc_claims_law.specs.Law.{One, Words, Both}
+use Rattle.hbc_claims_law.specs.Law.{One, Words, Both, Both3}
 
 -- the calls by name
 pub record Unique : Type 0 where
@@ -44,8 +46,11 @@ pub record Unique : Type 0 where
   pub function_row : Both of-function-row.Learnt (λ s. now (s .1 .1 .1 .1 .0))
   pub function_ground : One of-function-ground.Learnt
   pub function_meets : One of-function-meets.Learnt
-  pub read_functions : Both of-read-functions.Learnt (λ s. now (s .1 .1 .1 .1 .0))
-  pub refresh_functions : Both of-refresh-functions.Learnt (λ s. now (s .1 .1 .1 .1 .1 .1 .0))
+  pub share_of : One of-share-of.Learnt
+  pub exchange : One of-exchange.Learnt
+  pub read_functions : Both3 of-read-functions.Learnt (λ s. now (s .1 .1 .1 .1 .0)) (λ s. now (s .1 .1 .1 .1 .1 .0)) (λ s. now (s .1 .1 .1 .1 .1 .1 .0))
+  pub refresh_functions : Both3 of-refresh-functions.Learnt (λ s. now (s .1 .1 .1 .1 .1 .1 .0)) (λ s. now (s .1 .1 .1 .1 .1 .1 .1 .0))
+      (λ s. now (s .1 .1 .1 .1 .1 .1 .1 .1 .0))
   pub row_is_right : One of-row-is-right.Learnt
   pub inline_words : One of-inline-words.Learnt
   pub pointer_words : One of-pointer-words.Learnt

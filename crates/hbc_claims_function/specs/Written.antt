@@ -13,7 +13,7 @@ use Rattle.hbc_rows.specs.Rows.{rowAt}
 use Rattle.hbc_function_header.specs.declared.Reading.{Reading}
 use Rattle.hbc_function_header.specs.declared.Reading.the-variants as reading
 use Rattle.hbc_function_header.specs.Header.{headerAt, functionAt}
-use Rattle.hbc_function.specs.Table.{ReadFunctions}
+use Rattle.hbc_function.specs.Table.{Table, ReadFunctions}
 use Rattle.hbc_function_bytes.specs.Bytes.{goesInline}
 use Rattle.hbc_function_write.specs.declared.Wrote.the-variants as wrote
 use Rattle.hbc_function_write.specs.Write.{rounded, placeAt, tableEnd, WriteFunctions}
@@ -35,8 +35,9 @@ backAt layout f large i = take recordWidth (f i) ++ cond (goesInline layout (f i
 -- then: read into any table with room for the rows, s is accepted: those rows, and behind them every word as it was
 abbrev pub ReadsBack : List ℕ → Layout → ℕ → ℕ → ℕ → List ℕ → Type 0
 ReadsBack rows layout start count large s =
-    (t t′ : List ℕ) (r : Reading) → count * width ≤ length t → ReadFunctions s layout start count t r t′
-    → (r ≡ reading.Read) × ((i : ℕ) → i < count → rowAt width t′ i ≡ backAt layout (rowAt width rows) large i) × Behind (count * width) t t′
+    (t t′ : Table) (r : Reading) → count * width ≤ length (t .rows) → ReadFunctions s layout start count t r t′
+    → (r ≡ reading.Read) × ((i : ℕ) → i < count → rowAt width (t′ .rows) i ≡ backAt layout (rowAt width rows) large i)
+    × Behind (count * width) (t .rows) (t′ .rows)
 
 -- rows below the count have the same words of their records, whatever their places
 abbrev pub SameRecords : List ℕ → List ℕ → ℕ → Type 0

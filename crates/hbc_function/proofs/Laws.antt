@@ -7,7 +7,7 @@ use native.Mathlib.Omega.{arith}
 use native.Mathlib.Nat.{zero-add}
 use native.Mathlib.Numerals.{add-one}
 use native.Mathlib.Decide.{le-ind}
-use lib.ListN.{length, take, drop, length-drop, take-append-drop}
+use lib.ListN.{length, getD, take, drop, length-drop, take-append-drop}
 use lib.Seq.{sets, sets-eq, drop-drop, length-take-le}
 use lib.Dec.{ltb, lit<}
 use borrow.Rule.Slice.PartMut.{putMid}
@@ -17,7 +17,7 @@ use Rattle.hbc_io.specs.declared.Refusal.{Refusal}
 use Rattle.hbc_io.specs.Answer.{Answer, gives, refuses, asked}
 use Rattle.hbc_io.specs.Lends.{below}
 use Rattle.hbc_rows.specs.Rows as rows
-use Rattle.hbc_rows.proofs.RowsAt.{rows-length}
+use Rattle.hbc_rows.proofs.RowsAt.{rows-length, rows-at, row-is as row-words}
 use Rattle.hbc_function_record.specs.declared.Layout.{Layout}
 use Rattle.hbc_function_record.specs.declared.Layout.the-variants as lay
 use Rattle.hbc_function_record.specs.declared.Found.{Found}
@@ -26,11 +26,9 @@ use Rattle.hbc_function_record.specs.Row.{width, rowWords}
 use Rattle.hbc_function_record.proofs.Rows.{words-length}
 use Rattle.hbc_function_header.specs.declared.Reading.{Reading}
 use Rattle.hbc_function_header.specs.Header.{saysReading, functionAt, rowOf, FunctionRow}
-use Rattle.hbc_function_header.specs.Meets.{meets}
 use Rattle.hbc_function_header.proofs.Headers.{row-is}
-use Rattle.hbc_function.specs.declared.Refreshed.{Refreshed}
+use Rattle.hbc_function.specs.Private.{Put}
 use Rattle.hbc_function.specs.Table.{counted, step, scan, rowBy, rowIf, putRows, all, readAnswer}
-use Rattle.hbc_function.specs.Refresh.{saysRefreshed, held, refreshAnswer}
 
 -- ---- one function more
 
@@ -137,9 +135,21 @@ module _ (chosen : ℕ → Bool) (f : ℕ → Answer Found) (t : List ℕ) where
   unfolding putRows
   put-length n = rows-length width (rowIf chosen f) (short chosen f) 0 t n
 
--- t is t₀ with the chosen rows of functions 0 to i - 1
-pub record Put (chosen : ℕ → Bool) (f : ℕ → Answer Found) (i : ℕ) (t₀ t : List ℕ) : Type 0 where
-  pub is : t ≡ putRows chosen f t₀ i
+  -- word c of a chosen function's row is that of what it is read as
+  pub word-at : (n i c : ℕ) (r : Found) → n * width ≤ length t → i < n → c < width → chosen i ≡ true → f i ≡ gives r
+      → getD (putRows chosen f t n) (i * width + c) 0 ≡ getD (rowWords r) c 0
+  unfolding putRows
+  word-at n i c r h k l p e =
+      let q : rowIf chosen f i ≡ rowWords r = rw (p, e) in
+      let z : 0 + i ≡ i = zero-add i in
+      ap (λ (j : ℕ). getD (rows.putRows width (rowIf chosen f) 0 n t) (j * width + c) 0) (sym z)
+      ∙ rows-at width (rowIf chosen f) (short chosen f) 0 t n i c k (rw (q, words-length r) l) (rw z (omega arith))
+      ∙ ap (λ (o : List ℕ). getD o c 0) q
+
+  -- and so the row is all of its words
+  pub row-at : (n i : ℕ) (r : Found) → n * width ≤ length t → i < n → chosen i ≡ true → f i ≡ gives r → rows.rowAt width (putRows chosen f t n) i ≡ rowWords r
+  row-at n i r h k p e =
+      row-words width (putRows chosen f t n) i (rowWords r) (rw (put-length n) (omega arith)) (words-length r) (λ c l. word-at n i c r h k l p e)
 
 module _ {chosen : ℕ → Bool} {f : ℕ → Answer Found} {i : ℕ} {t₀ t : List ℕ} (v : Put chosen f i t₀ t) where
   pub put-long : length t ≡ length t₀
@@ -166,16 +176,7 @@ pub scanned : (s : List ℕ) (layout : Layout) (start count words : ℕ) → len
 unfolding readAnswer below
 scanned s layout start count words h k l = sym (simp (le-ltb _ _ h, le-ltb _ _ k, le-ltb _ _ l))
 
-pub met : (s : List ℕ) (layout : Layout) (start count low high words : ℕ) → length s ≤ limit → start ≤ length s → low ≤ high → high ≤ length s → count * width ≤ words
-    → count ≤ held s layout start → scan (meets s layout start low high) (functionAt s layout start) count ≡ refreshAnswer s layout start count low high words
-unfolding refreshAnswer below
-met s layout start count low high words a b c d f g =
-    sym (simp (le-ltb _ _ a, le-ltb _ _ b, le-ltb _ _ c, le-ltb _ _ d, le-ltb _ _ f, le-ltb _ _ g))
-
 -- ---- from an answer that says a and the case it was found in
 
 pub found-by : {a b : Reading} {o : Answer (Unit {0})} → saysReading a ≡ o → a ≡ b → saysReading b ≡ o
 found-by e f = sym (ap saysReading f) ∙ e
-
-pub fresh-by : {a b : Refreshed} {o : Answer ℕ} → saysRefreshed a ≡ o → a ≡ b → saysRefreshed b ≡ o
-fresh-by e f = sym (ap saysRefreshed f) ∙ e

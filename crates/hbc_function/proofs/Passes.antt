@@ -1,6 +1,6 @@
 -- The laws of Next, and of the two passes of a refresh, over any functions and any choice among them.
 use Prim.Native.Nat.{ℕ, zero, suc, _+_, _-_, _≤_, _<_}
-use mathlib.Core.Path.{_≡_, refl, ap, sym, _∙_}
+use mathlib.Core.Path.{_≡_, refl, ap, sym, _∙_, subst}
 use mathlib.Core.List.{List}
 use mathlib.Core.Bool.{Bool, true, false}
 use native.Mathlib.Omega.{arith}
@@ -13,14 +13,15 @@ use Rattle.hbc_function_record.specs.declared.Found.{Found}
 use Rattle.hbc_function_record.specs.Row.{width}
 use Rattle.hbc_io.specs.Answer.{Answer, gives, refuses, asked}
 use Rattle.hbc_function.specs.Table.{counted, step, scan, rowBy, putRows, all}
-use Rattle.hbc_function.specs.Private.{Skipped, Next}
-use Rattle.hbc_function.proofs.Laws.{step-read, step-refused, scan-more, scan-stops, scan-done, put-none, put-next, put-skip, Put, put-more}
+use Rattle.hbc_function.specs.Private.{Skipped, Next, Put}
+use Rattle.hbc_function.proofs.Laws.{step-read, step-refused, scan-more, scan-stops, scan-done, put-none, put-next, put-skip, put-more}
 
--- ---- one function more that is not chosen
+-- ---- one function more
 
-last-or : (chosen : ℕ → Bool) (i k : ℕ) (b : Bool) → ltb k i ≡ b → k < i + 1 → (k < i → chosen k ≡ false) → chosen i ≡ false → chosen k ≡ false
-last-or chosen i k true e h f g = f (ltb-true _ _ e)
-last-or chosen i k false e h f g = let l : i ≤ k = ltb-false _ _ e in let q : k ≡ i = omega arith in rw q g
+-- what holds of functions before i, and of i, holds of those up to i
+pub last-or : (A : ℕ → Type 0) (i k : ℕ) (b : Bool) → ltb k i ≡ b → k < i + 1 → (k < i → A k) → A i → A k
+last-or A i k true e h f g = f (ltb-true _ _ e)
+last-or A i k false e h f g = let l : i ≤ k = ltb-false _ _ e in let q : i ≡ k = omega arith in subst A q g
 
 module _ {chosen : ℕ → Bool} {from count : ℕ} where
   pub skip-none : from ≤ count → Skipped chosen from count from
@@ -29,7 +30,7 @@ module _ {chosen : ℕ → Bool} {from count : ℕ} where
   pub skip-more : {i : ℕ} → Skipped chosen from count i → i < count → chosen i ≡ false → Skipped chosen from count (i + 1)
   skip-more {i} v h e =
       let a = v .after in
-      record { after = omega arith; within = omega arith; none = λ k p q. last-or chosen i k (ltb k i) refl q (v .none k p) e }
+      record { after = omega arith; within = omega arith; none = λ k p q. last-or (λ k. chosen k ≡ false) i k (ltb k i) refl q (v .none k p) e }
 
   pub next-met : {i : ℕ} → Skipped chosen from count i → chosen i ≡ true → Next chosen from count i
   next-met v e = record { skipped = v; met = λ h. e }
@@ -38,7 +39,7 @@ module _ {chosen : ℕ → Bool} {from count : ℕ} where
   next-none v h = record { skipped = v; met = λ l. absurd (omega arith) }
 
   -- what functions that are not chosen leave as it is is at r what it was at `from`
-  same : {A : Type 0} (g : ℕ → A) → ((k : ℕ) → chosen k ≡ false → g (suc k) ≡ g k) → {r : ℕ} → Skipped chosen from count r → g r ≡ g from
+  pub same : {A : Type 0} (g : ℕ → A) → ((k : ℕ) → chosen k ≡ false → g (suc k) ≡ g k) → {r : ℕ} → Skipped chosen from count r → g r ≡ g from
   same g f {r} v = le-ind (λ (m : ℕ). m ≤ r → g m ≡ g from) (λ h. refl) (λ m k p h. f m (v .none m k (omega arith)) ∙ p (omega arith)) r (v .after) (omega arith)
 
 module _ {chosen : ℕ → Bool} (f : ℕ → Answer Found) {from count r : ℕ} (v : Next chosen from count r) where
@@ -60,41 +61,63 @@ module _ (f : ℕ → Answer Found) (t : List ℕ) (i : ℕ) where
   pub put-one : putRows (leb i) f t (i + 1) ≡ rows.putRow width t i (rowBy (f i))
   put-one = sym (put-more put-from (le-leb i i (omega arith)) refl .is)
 
+-- the same choice puts the same rows
+module _ (c d : ℕ → Bool) (f : ℕ → Answer Found) (t : List ℕ) where
+  alike-by : (n : ℕ) (b : Bool) → c n ≡ b → c n ≡ d n → putRows c f t n ≡ putRows d f t n → putRows c f t (suc n) ≡ putRows d f t (suc n)
+  alike-by n true e p h = put-next c f t n e ∙ ap (λ (u : List ℕ). rows.putRow width u n (rowBy (f n))) h ∙ sym (put-next d f t n (sym p ∙ e))
+  alike-by n false e p h = put-skip c f t n e ∙ h ∙ sym (put-skip d f t n (sym p ∙ e))
+
+  pub put-alike : (n : ℕ) → ((i : ℕ) → i < n → c i ≡ d i) → putRows c f t n ≡ putRows d f t n
+  put-alike zero e = put-none c f t ∙ sym (put-none d f t)
+  put-alike (suc n) e = alike-by n (c n) refl (e n (omega arith)) (put-alike n (λ i h. e i (omega arith)))
+
 pub put-whole : (f : ℕ → Answer Found) (t : List ℕ) (n : ℕ) → putRows (leb 0) f t n ≡ putRows all f t n
-put-whole f t zero = put-none (leb 0) f t ∙ sym (put-none all f t)
-put-whole f t (suc n) =
-    put-next (leb 0) f t n (le-leb 0 n (omega arith)) ∙ ap (λ (u : List ℕ). rows.putRow width u n (rowBy (f n))) (put-whole f t n) ∙ sym (put-next all f t n refl)
+put-whole f t n = put-alike (leb 0) all f t n (λ i h. le-leb 0 i (omega arith))
 
--- ---- once as many are counted as there are, no more rows are put
+-- ---- once as many are counted as there are, no more are chosen
 
--- what functions 0 to m - 1 count is at least n, and where it is n they put what functions 0 to i - 1 put
-record Rest (chosen : ℕ → Bool) (f : ℕ → Answer Found) (t : List ℕ) (i n m k : ℕ) : Type 0 where
+-- what functions 0 to m - 1 count is at least n, and where it is n they leave of g what functions 0 to i - 1 leave
+record Rest {A : Type 0} (g : ℕ → A) (i n m k : ℕ) : Type 0 where
   more : n ≤ k
-  same-put : k ≡ n → putRows chosen f t m ≡ putRows chosen f t i
+  same-left : k ≡ n → g m ≡ g i
 
 gives-same : {a b : ℕ} → gives a ≡ gives b → a ≡ b
 gives-same e = cc
 
-module _ (chosen : ℕ → Bool) (f : ℕ → Answer Found) (t : List ℕ) (i n : ℕ) where
-  rest-chosen : (m k j : ℕ) (a : Answer Found) → Rest chosen f t i n m j → counted j a ≡ gives k → Rest chosen f t i n (suc m) k
-  rest-chosen m k j (gives r) v e = let h : k ≡ j + 1 = cc in let l = v .more in record { more = omega arith; same-put = λ q. absurd (omega arith) }
+-- g is what functions that are not chosen leave as it is
+module _ (chosen : ℕ → Bool) (f : ℕ → Answer Found) {A : Type 0} (g : ℕ → A) (skip : (k : ℕ) → chosen k ≡ false → g (suc k) ≡ g k) (i n : ℕ) where
+  rest-chosen : (m k j : ℕ) (a : Answer Found) → Rest g i n m j → counted j a ≡ gives k → Rest g i n (suc m) k
+  rest-chosen m k j (gives r) v e = let h : k ≡ j + 1 = cc in let l = v .more in record { more = omega arith; same-left = λ q. absurd (omega arith) }
   rest-chosen m k j (refuses x) v e = let z : _≡_ {A = ℕ} 0 1 = cc in absurd (omega arith)
 
-  rest-step : (m k : ℕ) (b : Bool) (o : Answer ℕ) → chosen m ≡ b → scan chosen f m ≡ o → ((j : ℕ) → scan chosen f m ≡ gives j → Rest chosen f t i n m j)
-      → step b o (f m) ≡ gives k → Rest chosen f t i n (suc m) k
+  rest-step : (m k : ℕ) (b : Bool) (o : Answer ℕ) → chosen m ≡ b → scan chosen f m ≡ o → ((j : ℕ) → scan chosen f m ≡ gives j → Rest g i n m j)
+      → step b o (f m) ≡ gives k → Rest g i n (suc m) k
   unfolding step
-  rest-step m k false o c d p e = let v = p k (d ∙ e) in record { more = v .more; same-put = λ q. put-skip chosen f t m c ∙ v .same-put q }
+  rest-step m k false o c d p e = let v = p k (d ∙ e) in record { more = v .more; same-left = λ q. skip m c ∙ v .same-left q }
   rest-step m k true (gives j) c d p e = rest-chosen m k j (f m) (p j d) e
   rest-step m k true (refuses x) c d p e = let z : _≡_ {A = ℕ} 0 1 = cc in absurd (omega arith)
 
-  rest : scan chosen f i ≡ gives n → (m : ℕ) → i ≤ m → (k : ℕ) → scan chosen f m ≡ gives k → Rest chosen f t i n m k
+  rest : scan chosen f i ≡ gives n → (m : ℕ) → i ≤ m → (k : ℕ) → scan chosen f m ≡ gives k → Rest g i n m k
   unfolding scan
-  rest e m h = le-ind (λ (m : ℕ). (k : ℕ) → scan chosen f m ≡ gives k → Rest chosen f t i n m k)
-      (λ k d. let q : n ≡ k = gives-same (sym e ∙ d) in record { more = omega arith; same-put = λ u. refl })
+  rest e m h = le-ind (λ (m : ℕ). (k : ℕ) → scan chosen f m ≡ gives k → Rest g i n m k)
+      (λ k d. let q : n ≡ k = gives-same (sym e ∙ d) in record { more = omega arith; same-left = λ u. refl })
       (λ m l p k d. rest-step m k (chosen m) (scan chosen f m) refl refl p d) m h
 
-  pub put-rest : (m : ℕ) → i ≤ m → scan chosen f i ≡ gives n → scan chosen f m ≡ gives n → putRows chosen f t i ≡ putRows chosen f t m
-  put-rest m h e d = sym (rest e m h n d .same-put refl)
+  pub rest-same : (m : ℕ) → i ≤ m → scan chosen f i ≡ gives n → scan chosen f m ≡ gives n → g i ≡ g m
+  rest-same m h e d = sym (rest e m h n d .same-left refl)
+
+-- no more are counted than there are
+few-by : (n : ℕ) (b : Bool) (o : Answer ℕ) (a : Answer Found) (k : ℕ) → ((j : ℕ) → o ≡ gives j → j ≤ n) → step b o a ≡ gives k → k ≤ suc n
+unfolding step
+few-by n false o a k p e = let h = p k e in omega arith
+few-by n true (gives j) (gives f) k p e = let h = p j refl in let q : k ≡ j + 1 = cc in omega arith
+few-by n true (gives j) (refuses x) k p e = let z : _≡_ {A = ℕ} 0 1 = cc in absurd (omega arith)
+few-by n true (refuses x) a k p e = let z : _≡_ {A = ℕ} 0 1 = cc in absurd (omega arith)
+
+pub scan-few : (chosen : ℕ → Bool) (f : ℕ → Answer Found) (n k : ℕ) → scan chosen f n ≡ gives k → k ≤ n
+unfolding scan
+scan-few chosen f zero k e = let q : k ≡ 0 = cc in omega arith
+scan-few chosen f (suc n) k e = few-by n (chosen n) (scan chosen f n) (f n) k (λ j. scan-few chosen f n j) e
 
 -- ---- the pass that counts
 
@@ -169,7 +192,11 @@ module _ {chosen : ℕ → Bool} {f : ℕ → Answer Found} {count n : ℕ} {t�
           put = put-more here (v .met b) e;
         }
 
-    pub patch-done : left ≤ 0 → t ≡ putRows chosen f t₀ count
-    patch-done h =
+    -- what the functions that are not chosen leave as it is is at i what it is at count
+    pub patch-rest : {A : Type 0} (g : ℕ → A) → ((k : ℕ) → chosen k ≡ false → g (suc k) ≡ g k) → left ≤ 0 → g i ≡ g count
+    patch-rest g skip h =
         let q : n - left ≡ n = omega arith in
-        w .put .is ∙ put-rest chosen f t₀ i n count (w .within) (w .found ∙ ap gives q) d
+        rest-same chosen f g skip i n count (w .within) (w .found ∙ ap gives q) d
+
+    pub patch-done : left ≤ 0 → t ≡ putRows chosen f t₀ count
+    patch-done h = w .put .is ∙ patch-rest (putRows chosen f t₀) (put-skip chosen f t₀) h

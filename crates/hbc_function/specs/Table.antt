@@ -11,6 +11,9 @@ use Rattle.hbc_function_record.specs.declared.Found.{Found}
 use Rattle.hbc_function_record.specs.Row.{width, rowWords}
 use Rattle.hbc_function_header.specs.declared.Reading.{Reading}
 use Rattle.hbc_function_header.specs.Header.{saysReading, functionAt, opened}
+use Rattle.hbc_function_totals.specs.declared.Share.{Share}
+use Rattle.hbc_function_totals.specs.declared.Totals.{Totals}
+use Rattle.hbc_function_totals.specs.Totals.{shareOf, share, totals, sums}
 
 -- ---- functions 0, 1, 2, .. in turn; f i is what reading function i finds
 
@@ -34,7 +37,12 @@ abbrev pub rowBy : Answer Found → List ℕ
 rowBy (gives f) = rowWords f
 rowBy (refuses x) = []
 
--- nor does a function that is not chosen
+-- and what it adds to the totals: the share of its row; a refusal adds nothing
+abbrev pub shareBy : Answer Found → Share
+shareBy (gives f) = shareOf (rowWords f)
+shareBy (refuses x) = share 0 0
+
+-- nor does a function that is not chosen put a row
 abbrev pub rowIf : (ℕ → Bool) → (ℕ → Answer Found) → ℕ → List ℕ
 rowIf chosen f i = cond (chosen i) (rowBy (f i)) []
 
@@ -55,7 +63,25 @@ roomed words count a = below words (count * width) (refusedAt 4 0) a
 unfoldable pub readAnswer : List ℕ → Layout → ℕ → ℕ → ℕ → Answer (Unit {0})
 readAnswer s layout start count words = opened s start (roomed words count (asked (scan all (functionAt s layout start) count)))
 
--- what a read promises: the answer, and what the lent table has become
-abbrev pub ReadFunctions : List ℕ → Layout → ℕ → ℕ → List ℕ → Reading → List ℕ → Type 0
+-- ---- what is lent: the words of the rows, and the two totals beside them
+
+pub record Table : Type 0 where
+  pub rows : List ℕ
+  pub totals : Totals
+
+abbrev pub lent : List ℕ → ℕ → ℕ → Table
+lent rows large sizes = record { rows = rows; totals = totals large sizes }
+
+-- the totals that are true of the first n rows of a table: by its own words, whatever was read or refreshed
+abbrev pub totalsOf : List ℕ → ℕ → Totals
+totalsOf t n = sums all (λ i. shareOf (rows.rowAt width t i)) n
+
+-- a table with its own totals
+abbrev pub summed : List ℕ → ℕ → Table
+summed t n = record { rows = t; totals = totalsOf t n }
+
+-- what a read promises: the answer, and what the lent table and totals have become
+abbrev pub ReadFunctions : List ℕ → Layout → ℕ → ℕ → Table → Reading → Table → Type 0
 ReadFunctions s layout start count before =
-    Lends saysReading (readAnswer s layout start count (length before)) (putRows all (functionAt s layout start) before count) before
+    Lends saysReading (readAnswer s layout start count (length (before .rows)))
+    (summed (putRows all (functionAt s layout start) (before .rows) count) count) before

@@ -12,7 +12,7 @@ use Rattle.hbc_function_record.specs.Row.{width}
 use Rattle.hbc_function_header.specs.declared.Reading.{Reading}
 use Rattle.hbc_function_header.specs.declared.Reading.the-variants as reading
 use Rattle.hbc_function_header.specs.Header.{saysReading}
-use Rattle.hbc_function.specs.Table.{readAnswer, ReadFunctions}
+use Rattle.hbc_function.specs.Table.{Table, readAnswer, ReadFunctions}
 use Rattle.hbc_job.specs.declared.Parts.{Parts}
 use Rattle.hbc_job.specs.declared.Job.{Job}
 use Rattle.hbc_job.specs.declared.Job.the-variants as job
@@ -26,7 +26,8 @@ has-file s e f =
     reached _ _ _ _ not-given (a .1) .0
 
 -- the table that was read, with LISTED rows
-module _ (file : List ℕ) (p : Parts) (t : List ℕ) {r : Reading} {t′ : List ℕ} (v : ReadFunctions file (p .layout) (p .start) (p .count) t r t′) (n : length t ≡ LISTED * width) where
+module _ (file : List ℕ) (p : Parts) (t : Table) {r : Reading} {t′ : Table} (v : ReadFunctions file (p .layout) (p .start) (p .count) t r t′)
+    (n : length (t .rows) ≡ LISTED * width) where
   read-is : {a : Reading} → r ≡ a → readAnswer file (p .layout) (p .start) (p .count) (LISTED * width) ≡ saysReading a
   read-is f = ap (readAnswer file (p .layout) (p .start) (p .count)) (sym n) ∙ sym (v .says) ∙ ap saysReading f
 

@@ -74,7 +74,18 @@ fn list_file(file: &[u8], job: Parts) -> Job
     let layout = job.layout;
     let count = job.count;
     let mut rows = [0u32; LISTED * WIDTH];
-    match hbc_function::read_functions(file, layout, job.start as usize, count, &mut rows) {
+    // No line shows them.
+    let mut large: u64 = 0;
+    let mut sizes: u64 = 0;
+    match hbc_function::read_functions(
+        file,
+        layout,
+        job.start as usize,
+        count,
+        &mut rows,
+        &mut large,
+        &mut sizes,
+    ) {
         Reading::Read => {
             heading(layout, count);
             rows_of(&rows, count);

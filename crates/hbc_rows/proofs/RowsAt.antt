@@ -164,11 +164,11 @@ rows-first w f t n = rw (add-one, zero-add)
 
 -- ---- a row as a whole
 
-row-length : (w : ℕ) (t : List ℕ) (k : ℕ) → k * w + w ≤ length t → length (rowAt w t k) ≡ w
+pub row-length : (w : ℕ) (t : List ℕ) (k : ℕ) → k * w + w ≤ length t → length (rowAt w t k) ≡ w
 unfolding rowAt
 row-length w t k h = length-take-le w (drop (k * w) t) (simp length-drop (omega arith))
 
-word-of : (w : ℕ) (t : List ℕ) (k c : ℕ) → c < w → getD (rowAt w t k) c 0 ≡ getD t (k * w + c) 0
+pub word-of : (w : ℕ) (t : List ℕ) (k c : ℕ) → c < w → getD (rowAt w t k) c 0 ≡ getD t (k * w + c) 0
 unfolding rowAt
 word-of w t k c h = getD-take w (drop (k * w) t) c 0 h ∙ getD-drop (k * w) t c 0
 
@@ -178,6 +178,18 @@ pub row-is : (w : ℕ) (t : List ℕ) (k : ℕ) (row : List ℕ) → k * w + w �
 row-is w t k row h l p =
     let a : length (rowAt w t k) ≡ w = row-length w t k h in
     ext-getD 0 (rowAt w t k) row (a ∙ sym l) (λ i n. let m : i < w = rw a at n in word-of w t k i m ∙ p i m)
+
+-- a row that was put, and any other, which is as it was
+module _ (w : ℕ) (t : List ℕ) (k : ℕ) (row : List ℕ) where
+  pub row-here : length row ≡ w → k * w + w ≤ length t → rowAt w (putRow w t k row) k ≡ row
+  row-here l h =
+      let short : length row ≤ w = omega arith in
+      row-is w (putRow w t k row) k row (rw (put-length w row short t k) h) l (λ c m. put-here w row short t k c (omega arith) h)
+
+  pub row-apart : (i : ℕ) → length row ≤ w → i * w + w ≤ length t → (i ≡ k → ⊥) → rowAt w (putRow w t k row) i ≡ rowAt w t i
+  row-apart i short h n =
+      row-is w (putRow w t k row) i (rowAt w t i) (rw (put-length w row short t k) h) (row-length w t i h)
+      (λ c m. put-apart w row short t k i c m n ∙ sym (word-of w t i c m))
 
 -- row base + i is row i of those that were put
 pub row-put : (w : ℕ) (f : ℕ → List ℕ) (base : ℕ) (t : List ℕ) (n i : ℕ) → ((j : ℕ) → length (f j) ≡ w) → i < n → (base + i) * w + w ≤ length t

@@ -1,4 +1,4 @@
-// Function tables. Asked: start, both ends of the span, words lent; layout, count or number. The answer: code, 0.
+// Function tables. Asked: start, both ends of the span, words lent; layout, count or number. The answer: code, 0; of a table code, large, sizes.
 use hbc_function_header::Function;
 use hbc_function_record::Found;
 use hbc_function_record::Layout;
@@ -10,22 +10,74 @@ use hbc_record::FILL_BYTE;
 use hbc_record::NONE;
 use hbc_record::answers;
 use hbc_record::bytes_are;
+use hbc_record::field_of;
 use hbc_record::given;
 use hbc_record::leaves;
 use hbc_record::lent;
 use hbc_record::lent_bytes;
+use hbc_record::words_are;
 
+// The totals as they are after the call are answered, those lent to it are given: field 4, 64 bits each.
 pub(crate) fn read_functions(record: &[u8], s: &[u8], n: Asked) -> bool {
     let mut table = [FILL; 256];
-    let code = hbc_c_function::read_functions(s, n.p, n.a, n.q, lent(&mut table, n.d));
-    leaves(record, code, 0, &table)
+    let t = field_of(record, 4);
+    let mut large = hbc_io::u64_at(t, 0);
+    let mut sizes = hbc_io::u64_at(t, 8);
+    let rows = lent(&mut table, n.d);
+    let code = hbc_c_function::read_functions(s, n.p, n.a, n.q, rows, &mut large, &mut sizes);
+    answers(record, code, large as usize, sizes as usize, NONE, NONE) & words_are(record, 3, &table)
 }
 
 pub(crate) fn refresh_functions(record: &[u8], s: &[u8], n: Asked) -> bool {
     let mut table = [FILL; 256];
-    let t = lent(&mut table, n.d);
-    let code = hbc_c_function::refresh_functions(s, n.p, n.a, n.q, n.b, n.c, t);
-    leaves(record, code, 0, &table)
+    let t = field_of(record, 4);
+    let mut large = hbc_io::u64_at(t, 0);
+    let mut sizes = hbc_io::u64_at(t, 8);
+    let rows = lent(&mut table, n.d);
+    let code = hbc_c_function::refresh_functions(
+        s,
+        n.p,
+        n.a,
+        n.q,
+        n.b,
+        n.c,
+        rows,
+        &mut large,
+        &mut sizes,
+    );
+    answers(record, code, large as usize, sizes as usize, NONE, NONE) & words_are(record, 3, &table)
+}
+
+// A table read from the file before an edit, field 5, and refreshed from the file after it: the read's code is answered last.
+pub(crate) fn read_refreshed(record: &[u8], s: &[u8], n: Asked) -> bool {
+    let mut table = [FILL; 256];
+    let t = field_of(record, 4);
+    let mut large = hbc_io::u64_at(t, 0);
+    let mut sizes = hbc_io::u64_at(t, 8);
+    let before = field_of(record, 5);
+    let rows = lent(&mut table, n.d);
+    let first = hbc_c_function::read_functions(before, n.p, n.a, n.q, rows, &mut large, &mut sizes);
+    let again = lent(&mut table, n.d);
+    let code = hbc_c_function::refresh_functions(
+        s,
+        n.p,
+        n.a,
+        n.q,
+        n.b,
+        n.c,
+        again,
+        &mut large,
+        &mut sizes,
+    );
+    answers(
+        record,
+        code,
+        large as usize,
+        sizes as usize,
+        first as usize,
+        NONE,
+    )
+        & words_are(record, 3, &table)
 }
 
 pub(crate) fn function_meets(record: &[u8], s: &[u8], n: Asked) -> bool {

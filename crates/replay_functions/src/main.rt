@@ -28,6 +28,7 @@ fn judge(record: &[u8], n: Asked) -> bool {
         29 => function::function_ground(record, s, n),
         30 => function::write_functions(record, n),
         33 => parsing::why_no_handlers(record, s, n),
+        34 => function::read_refreshed(record, s, n),
         _ => cursor::judge(record, s, n),
     }
 }

@@ -1,11 +1,12 @@
-//! The function tables: the whole table at once, what a small edit costs, and rows that are written.
+//! The function tables: the whole table at once, one function by a call, what an edit costs, and rows that are written.
 
 use bisquepond::function::FunctionRow;
 use bisquepond::sys::*;
 use bisquepond::Row as _;
 use harness::Random;
 use published::file::parser::function::parse_function_headers;
-use published::format::{empty_header, FunctionHeaderLayout, FLAG_OVERFLOWED};
+use published::format::{empty_header, BytecodeHeader, FunctionHeader};
+use published::format::{FunctionHeaderLayout, FLAG_OVERFLOWED};
 use published::io::ByteReader;
 
 use crate::table::{Bench, SIZES};
@@ -19,6 +20,13 @@ const LAYOUTS: [(u32, &str, usize, usize); 2] = [(0, "legacy", 16, 32), (1, "mod
 
 /// One function of this many has a large header, where nothing else is said.
 const LARGE: usize = 16;
+
+/// The same in words: one function of 16, none, or each.
+const KINDS: [(usize, &str); 3] = [
+    (LARGE, ""),
+    (usize::MAX, ", none large"),
+    (1, ", all large"),
+];
 
 pub fn rows(bench: &Bench) {
     heading(
@@ -43,16 +51,34 @@ pub fn rows(bench: &Bench) {
         }
     }
     heading(
-        "A table brought up to date after an edit of four bytes, against the Rust's fresh read of the edited file.",
-        "The edit is in a header in the middle of the table, or in the last large header.",
+        "One function by a call of its own, for each in turn. The Rust, which reads tables alone, reads one of one function,",
+        "at its header, into a vector.",
+        "function",
+    );
+    for (layout, name, ..) in LAYOUTS {
+        let [small, _] = SIZES;
+        for (one_in, kind) in KINDS {
+            let file = File::filling(layout, small, one_in);
+            file.one(bench, &format!("one {name}{kind}"));
+        }
+    }
+    heading(
+        "A table brought up to date with its totals after an edit of four bytes, against the Rust's fresh read of the edited",
+        "file: in a header in the middle of the table, in the last large header; and after any edit, the whole file as span.",
         "function",
     );
     for (layout, name, own, _) in LAYOUTS {
         for size in SIZES {
             let file = File::filling(layout, size, LARGE);
-            let header = START + own * (file.count / 2);
-            file.refresh(bench, &format!("refresh {name}, header"), header);
-            file.refresh(bench, &format!("refresh {name}, large"), file.last);
+            let (header, len) = (START + own * (file.count / 2), file.bytes.len());
+            let four = |low| (low, low + 4, 1);
+            file.refresh(bench, &format!("refresh {name}, header"), four(header));
+            file.refresh(bench, &format!("refresh {name}, large"), four(file.last));
+            file.refresh(
+                bench,
+                &format!("refresh {name}, whole file"),
+                (0, len, file.count),
+            );
         }
     }
     sides(
@@ -63,11 +89,7 @@ pub fn rows(bench: &Bench) {
     );
     for (layout, name, ..) in LAYOUTS {
         for size in SIZES {
-            for (one_in, kind) in [
-                (LARGE, ""),
-                (usize::MAX, ", none large"),
-                (1, ", all large"),
-            ] {
+            for (one_in, kind) in KINDS {
                 let file = File::filling(layout, size, one_in);
                 file.write(bench, &format!("write {name}{kind}"));
             }
@@ -121,29 +143,80 @@ impl File {
         }
     }
 
-    fn published(&self) -> (u64, u64) {
-        let layout = match self.layout {
+    /// What the Rust is told of the file, of which it reads so many functions.
+    fn header(&self, count: usize) -> BytecodeHeader {
+        let mut header = empty_header(match self.layout {
             0 => FunctionHeaderLayout::Legacy16,
             _ => FunctionHeaderLayout::Modern12,
-        };
-        let mut header = empty_header(layout);
-        header.function_count = self.count as u32;
-        let mut reader = ByteReader::new(&self.bytes);
-        reader.seek(START).unwrap();
-        let rows = parse_function_headers(&mut reader, &header).unwrap();
+        });
+        header.function_count = count as u32;
+        header
+    }
+
+    fn published(&self) -> (u64, u64) {
+        let rows = self.headers();
         let sampled = [0, rows.len() / 2, rows.len() - 1];
         let sum = sampled.map(|i| u64::from(rows[i].bytecode_size_in_bytes()));
         (rows.len() as u64, sum.iter().sum())
     }
 
+    fn headers(&self) -> Vec<FunctionHeader> {
+        let mut reader = ByteReader::new(&self.bytes);
+        reader.seek(START).unwrap();
+        parse_function_headers(&mut reader, &self.header(self.count)).unwrap()
+    }
+
     fn ours(&self, table: &mut [u32]) -> (u64, u64) {
-        let (s, len) = (self.bytes.as_ptr(), self.bytes.len());
+        self.read_with(table, &mut [0; 2])
+    }
+
+    /// The same, and the totals.
+    fn read_with(&self, table: &mut [u32], [large, sizes]: &mut [u64; 2]) -> (u64, u64) {
+        let (s, len, layout) = (self.bytes.as_ptr(), self.bytes.len(), self.layout);
         let (words, lent) = (table.len(), table.as_mut_ptr());
         let count = self.count as u32;
-        let read = unsafe { hbc_read_functions(s, len, self.layout, START, count, lent, words) };
+        let read =
+            unsafe { hbc_read_functions(s, len, layout, START, count, lent, words, large, sizes) };
         let sampled = [0, self.count / 2, self.count - 1];
         let sum = sampled.map(|i| u64::from(table[i * ROW + 4]));
         (read, sum.iter().sum())
+    }
+
+    /// The totals by the Rust's headers, and by the flags of our own.
+    fn totals(&self) -> [u64; 2] {
+        let (_, _, own, _) = LAYOUTS[self.layout as usize];
+        let headers = self.bytes[START..].chunks_exact(own).take(self.count);
+        let large = headers.filter(|header| header[own - 1] & FLAG_OVERFLOWED != 0);
+        let headers = self.headers();
+        let sizes = headers.iter().map(|header| header.bytecode_size_in_bytes());
+        [large.count() as u64, sizes.map(u64::from).sum()]
+    }
+
+    /// Each function by a call, and the sum of all their sizes.
+    fn one(&self, bench: &Bench, name: &str) {
+        let (_, _, own, _) = LAYOUTS[self.layout as usize];
+        let (s, len, layout) = (self.bytes.as_ptr(), self.bytes.len(), self.layout);
+        let ours = || {
+            let (mut row, mut sum, mut read) = ([0; ROW], 0, 0);
+            for id in 0..self.count as u32 {
+                let lent = row.as_mut_ptr();
+                read += unsafe { hbc_read_function(s, len, layout, START, id, lent, ROW) };
+                sum += u64::from(row[4]);
+            }
+            (read, sum)
+        };
+        let header = self.header(1);
+        let rust = || {
+            let (mut reader, mut sum, mut read) = (ByteReader::new(&self.bytes), 0, 0);
+            for id in 0..self.count {
+                reader.seek(START + id * own).unwrap();
+                let rows = parse_function_headers(&mut reader, &header).unwrap();
+                read += rows.len() as u64;
+                sum += u64::from(rows[0].bytecode_size_in_bytes());
+            }
+            (read, sum)
+        };
+        self.size().row(bench, name, ours, rust);
     }
 
     /// Writes what was read: the large headers then stand where they stood.
@@ -190,22 +263,32 @@ impl File {
         self.size().row(bench, name, made, || self.published());
     }
 
-    fn refresh(&self, bench: &Bench, name: &str, low: usize) {
-        let mut table = vec![0; self.count * ROW];
-        self.ours(&mut table);
+    /// A span, and how many functions meet it. The totals are those of the read, and go from call to call.
+    fn refresh(&self, bench: &Bench, name: &str, (low, high, met): (usize, usize, usize)) {
+        let (mut table, mut totals) = (vec![0; self.count * ROW], [0; 2]);
+        self.read_with(&mut table, &mut totals);
+        assert_eq!(totals, self.totals(), "{name}: the totals of a read");
         let (s, len) = (self.bytes.as_ptr(), self.bytes.len());
-        let (layout, count, high) = (self.layout, self.count as u32, low + 4);
+        let (layout, count) = (self.layout, self.count as u32);
+        let [large, sizes] = &mut totals;
         let ours = || {
             let (words, lent) = (table.len(), table.as_mut_ptr());
-            let met = unsafe {
-                hbc_refresh_functions(s, len, layout, START, count, low, high, lent, words)
+            let again = unsafe {
+                hbc_refresh_functions(
+                    s, len, layout, START, count, low, high, lent, words, large, sizes,
+                )
             };
-            assert_eq!(met, 1, "one function meets the edit");
+            assert_eq!(again, met as u64, "so many functions meet the edit");
             let sampled = [0, self.count / 2, self.count - 1];
             let sum = sampled.map(|i| u64::from(table[i * ROW + 4]));
             (count as u64, sum.iter().sum())
         };
         self.size().row(bench, name, ours, || self.published());
+        assert_eq!(
+            totals,
+            self.totals(),
+            "{name}: the totals after all of them"
+        );
     }
 }
 

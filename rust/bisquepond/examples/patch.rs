@@ -1,4 +1,4 @@
-//! Changes bytes of a bytecode file in place, and brings its function table up to date:
+//! Changes bytes of a bytecode file in place, and brings its function table and the table's totals up to date:
 //!
 //!     cargo run --example patch FILE LAYOUT START COUNT OFFSET HEXBYTES
 //!     cargo run --example patch          # a sample, made in memory
@@ -83,7 +83,7 @@ fn patch(
     println!("\nat byte {offset}: {} -> {}", hex(place), hex(bytes));
     place.copy_from_slice(bytes);
 
-    let before = table.to_vec();
+    let (before, was) = (table.to_vec(), table.totals());
     let again = table.refresh(file, span)?;
     println!("{} of {} rows read again", again.len(), table.len());
     for id in again {
@@ -97,12 +97,21 @@ fn patch(
             println!("  function {id}, {is}: {name} {old} -> {now}");
         }
     }
+    // The totals came along: nothing was added up.
+    let now = table.totals();
+    println!(
+        "in all: {} -> {} large headers, {} -> {} bytes of bytecode",
+        was.large(),
+        now.large(),
+        was.sizes(),
+        now.sizes()
+    );
 
     let count = table.len() as u32;
     let fresh = function::read_functions(file, table.layout(), table.start(), count)?;
-    match fresh == *table {
-        true => println!("a fresh read gives the same rows"),
-        false => return Err("a fresh read gives other rows".into()),
+    match fresh == *table && fresh.totals() == now {
+        true => println!("a fresh read gives the same rows and totals"),
+        false => return Err("a fresh read gives other rows or totals".into()),
     }
     Ok(())
 }
@@ -152,6 +161,8 @@ fn sample() -> Result<(), Box<dyn Error>> {
             row.flags()
         );
     }
+    let (large, sizes) = (table.totals().large(), table.totals().sizes());
+    println!("in all: {large} large header, {sizes} bytes of bytecode");
 
     // The name of function 1: no byte of the table changes, and yet its row does.
     patch(&mut file, &mut table, LARGE + 12, &201_001u32.to_le_bytes())?;
@@ -164,7 +175,8 @@ fn sample() -> Result<(), Box<dyn Error>> {
     (bytes[0], bytes[20]) = (0x0C, 0xFF);
     let refused = patch(&mut file, &mut table, START + 4, &bytes).unwrap_err();
     println!("{refused}");
-    println!("function 0 still has the size {}", table[0].size());
+    let (size, sizes) = (table[0].size(), table.totals().sizes());
+    println!("function 0 still has the size {size}, and all of them have {sizes} bytes");
     // The place is put right. What was refused is not forgotten: function 0 is read again too.
     patch(&mut file, &mut table, START + 24, &[0])?;
     // The flag of function 1 is cleared: it is read from its own header, whose offset was the place.

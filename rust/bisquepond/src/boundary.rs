@@ -11,6 +11,7 @@ use alloc::string::String;
 use alloc::vec::Vec;
 use core::str;
 
+use crate::function::Totals;
 use crate::io::Marked;
 use crate::refusal::{Place, Refusal, Result};
 use crate::sys;
@@ -392,11 +393,13 @@ pub(crate) fn read_functions(
     start: usize,
     count: u32,
     rows: &mut [FunctionRow],
-) -> Result<u32> {
+) -> Result<(u32, Totals)> {
     let (s, len, rows) = (file.as_ptr(), file.len(), words_of_mut(rows));
-    let (lent, words) = (rows.as_mut_ptr(), rows.len());
-    let code = unsafe { sys::hbc_read_functions(s, len, layout, start, count, lent, words) };
-    Refusal::check(code, Place::Function)
+    let (lent, words, mut totals) = (rows.as_mut_ptr(), rows.len(), Totals::default());
+    let Totals { large, sizes } = &mut totals;
+    let code =
+        unsafe { sys::hbc_read_functions(s, len, layout, start, count, lent, words, large, sizes) };
+    Refusal::check(code, Place::Function).map(|read| (read, totals))
 }
 
 pub(crate) fn refresh_functions(
@@ -406,11 +409,16 @@ pub(crate) fn refresh_functions(
     count: u32,
     (low, high): (usize, usize),
     rows: &mut [FunctionRow],
+    totals: &mut Totals,
 ) -> Result<u32> {
     let (s, len, rows) = (file.as_ptr(), file.len(), words_of_mut(rows));
     let (lent, words) = (rows.as_mut_ptr(), rows.len());
-    let code =
-        unsafe { sys::hbc_refresh_functions(s, len, layout, start, count, low, high, lent, words) };
+    let Totals { large, sizes } = totals;
+    let code = unsafe {
+        sys::hbc_refresh_functions(
+            s, len, layout, start, count, low, high, lent, words, large, sizes,
+        )
+    };
     Refusal::check(code, Place::Function)
 }
 

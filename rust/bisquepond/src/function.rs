@@ -2,7 +2,8 @@
 //!
 //! A header whose overflow flag is set is read from its large header, at the place packed into it, which may lie
 //! anywhere in the file. So an edit far from the table can change a row, and [`FunctionTable::refresh`] knows which; and
-//! each row has the place that it was read from ([`FunctionRow::large_place`]).
+//! each row has the place that it was read from ([`FunctionRow::large_place`]). Beside the rows stand two totals, which
+//! follow them ([`Totals`]): whoever shows them need not add up the table again.
 //!
 //! The other way round, copies of a table's rows are edited, and [`write_functions`] makes headers of them again.
 
@@ -563,6 +564,85 @@ impl fmt::Debug for FunctionRow {
     }
 }
 
+/// Two totals over the rows of a table: how many of them were read from large headers, and the sum of their bytecode sizes.
+///
+/// A table of its own has them, always those of its rows ([`FunctionTable::totals`]). Rows that are lent have them beside:
+/// [`read_functions_into`] answers them, and [`refresh_functions`] brings them up to date with the rows. They cannot be set
+/// by hand: they are what a read answered, what a refresh made of that, or what [`of`](Self::of) added up; by default those
+/// of no rows.
+///
+/// ```
+/// use bisquepond::{Layout, function::{self, Totals}};
+///
+/// // Two functions of size 10, of which the second gets a large header at byte 32, with the size 77.
+/// let header = [0, 1, 0, 4, 0x0A, 0x80, 1, 0, 0, 0, 0, 0x0A, 1, 2, 3, 4];
+/// let mut file = [&header[..], &header, &[0; 31]].concat();
+/// file[40] = 77;
+/// let mut table = function::read_functions(&file, Layout::Legacy16, 0, 2)?;
+/// assert_eq!((table.totals().large(), table.totals().sizes()), (0, 20));
+/// (file[16], file[17], file[31]) = (32, 0, 0x20);
+/// assert_eq!(table.refresh(&file, 16..32)?.len(), 1);
+/// assert_eq!((table.totals().large(), table.totals().sizes()), (1, 87));
+/// assert_eq!(table.totals(), Totals::of(&table));
+/// # Ok::<(), bisquepond::Refusal>(())
+/// ```
+#[derive(Clone, Copy, PartialEq, Eq, Hash, Debug, Default)]
+pub struct Totals {
+    pub(crate) large: u64,
+    pub(crate) sizes: u64,
+}
+
+impl Totals {
+    /// Adds up these rows, whatever they are: of copies that were edited, or of the first so many rows alone. A row counts
+    /// as large by its last word ([`FunctionRow::large_place`]), and not by its flags.
+    ///
+    /// ```
+    /// # use bisquepond::{Layout, function::{self, Totals}};
+    /// # let file = [0, 1, 0, 4, 0x0A, 0x80, 1, 0, 0, 0, 0, 0x0A, 1, 2, 3, 4].repeat(3);
+    /// let table = function::read_functions(&file, Layout::Legacy16, 0, 3)?;
+    /// let mut rows = table.to_vec();
+    /// rows[0].set_size(15);
+    /// assert_eq!((Totals::of(&rows).sizes(), Totals::of(&rows[..1]).sizes()), (35, 15));
+    /// assert_eq!((table.totals().sizes(), Totals::of(&[])), (30, Totals::default()));
+    /// # Ok::<(), bisquepond::Refusal>(())
+    /// ```
+    pub fn of(rows: &[FunctionRow]) -> Totals {
+        let large = rows.iter().filter(|row| row.large_place().is_some());
+        let sizes = rows.iter().map(|row| u64::from(row.size()));
+        Totals {
+            large: large.count() as u64,
+            // More than 2^32 rows would be needed to get there, and so large a total is refused.
+            sizes: sizes.fold(0, u64::saturating_add),
+        }
+    }
+
+    /// How many rows were read from large headers.
+    ///
+    /// ```
+    /// # use bisquepond::{Layout, function};
+    /// # let mut file = [0; 47];
+    /// (file[0], file[15]) = (16, 0x20); // a large header at byte 16
+    /// assert_eq!(function::read_functions(&file, Layout::Legacy16, 0, 1)?.totals().large(), 1);
+    /// # Ok::<(), bisquepond::Refusal>(())
+    /// ```
+    pub const fn large(&self) -> u64 {
+        self.large
+    }
+
+    /// The sum of the rows' sizes: how many bytes of bytecode they have together.
+    ///
+    /// ```
+    /// # use bisquepond::{Layout, function};
+    /// # let file = [0, 1, 0, 4, 0x0A, 0x80, 1, 0, 0, 0, 0, 0x0A, 1, 2, 3, 4].repeat(3);
+    /// let table = function::read_functions(&file, Layout::Legacy16, 0, 3)?;
+    /// assert_eq!((table[0].size(), table.totals().sizes()), (10, 30));
+    /// # Ok::<(), bisquepond::Refusal>(())
+    /// ```
+    pub const fn sizes(&self) -> u64 {
+        self.sizes
+    }
+}
+
 /// Reads function `id` alone. `start` is the byte of the file at which the table of headers begins.
 ///
 /// # Errors
@@ -583,7 +663,7 @@ pub fn read_function(file: &[u8], layout: Layout, start: usize, id: u32) -> Resu
     boundary::read_function(file, layout.number(), start, id)
 }
 
-/// Reads functions 0 to count - 1 into the first rows that are lent, and answers these. Other rows stay.
+/// Reads functions 0 to count - 1 into the first rows that are lent, and answers these and their totals. Other rows stay.
 ///
 /// # Errors
 ///
@@ -596,8 +676,9 @@ pub fn read_function(file: &[u8], layout: Layout, start: usize, id: u32) -> Resu
 ///
 /// let file = [0, 1, 0, 4, 0x0A, 0x80, 1, 0, 0, 0, 0, 0x0A, 1, 2, 3, 4];
 /// let mut rows = [FunctionRow::default(); 8];
-/// let read = function::read_functions_into(&file, Layout::Legacy16, 0, 1, &mut rows)?;
+/// let (read, totals) = function::read_functions_into(&file, Layout::Legacy16, 0, 1, &mut rows)?;
 /// assert_eq!((read.len(), read[0].frame_size()), (1, 5));
+/// assert_eq!((totals.large(), totals.sizes()), (0, 10));
 /// let short = function::read_functions_into(&file, Layout::Legacy16, 0, 9, &mut rows);
 /// assert_eq!(short.unwrap_err().number, 4);
 /// # Ok::<(), bisquepond::Refusal>(())
@@ -608,34 +689,46 @@ pub fn read_functions_into<'t>(
     start: usize,
     count: u32,
     rows: &'t mut [FunctionRow],
-) -> Result<&'t [FunctionRow]> {
-    let read = boundary::read_functions(file, layout.number(), start, count, rows)?;
-    Ok(&rows[..read as usize])
+) -> Result<(&'t [FunctionRow], Totals)> {
+    let (read, totals) = boundary::read_functions(file, layout.number(), start, count, rows)?;
+    Ok((&rows[..read as usize], totals))
 }
 
 /// Brings rows up to date after the bytes of `span` changed, and nothing else: reads again those of the first `count`
 /// functions whose header or large header shares a byte with it, from the file as it is now. Answers how many.
 ///
-/// Refused, no row was changed, and the edit is not taken in: the caller undoes it, or holds it in the span of the next
-/// call too; a file of another length is read anew. [`FunctionTable::refresh`] sees to this by itself.
+/// The totals are those of the first `count` rows, as the last read or refresh of these rows with this count left them, or
+/// as [`Totals::of`] adds them up; and so they are afterwards. Of each row that is read again what it has in them is taken
+/// out, and then what it has now is added.
+///
+/// Refused, no row and no total was changed, and the edit is not taken in: the caller undoes it, or holds it in the span of
+/// the next call too; a file of another length is read anew. [`FunctionTable::refresh`] sees to this by itself.
 ///
 /// # Errors
 ///
 /// `TooLong`; `PastEnd` if `start` is past the end; `BadSpan` if the span is reversed or goes past the end; `TooFewRows`
 /// if fewer than `count` rows are lent; `Cut` with the first function whose header is not wholly in the file; then as a
-/// read, for the first function that meets the span.
+/// read, for the first function that meets the span; then `BadTotals`, with the first function as place at which a total
+/// falls below 0 by what is taken out, or is above 2^63 - 1: never where they are those of the rows.
 ///
 /// ```
-/// use bisquepond::{Layout, function::{self, FunctionRow}};
+/// use bisquepond::{Layout, Reason, function::{self, FunctionRow, Totals}};
 ///
 /// let mut file = [0, 1, 0, 4, 0x0A, 0x80, 1, 0, 0, 0, 0, 0x0A, 1, 2, 3, 4];
 /// let mut rows = [FunctionRow::default()];
-/// function::read_functions_into(&file, Layout::Legacy16, 0, 1, &mut rows)?;
-/// file[0] = 4;
-/// assert_eq!(function::refresh_functions(&file, Layout::Legacy16, 0, 1, 0..1, &mut rows)?, 1);
-/// assert_eq!(rows[0].offset(), 260);
+/// let (_, mut totals) = function::read_functions_into(&file, Layout::Legacy16, 0, 1, &mut rows)?;
+/// (file[0], file[4]) = (4, 12);
+/// let again = function::refresh_functions(&file, Layout::Legacy16, 0, 1, 0..5, &mut rows, &mut totals)?;
+/// assert_eq!((again, rows[0].offset(), totals.sizes()), (1, 260, 12));
 /// // An empty span meets nothing.
-/// assert_eq!(function::refresh_functions(&file, Layout::Legacy16, 0, 1, 1..1, &mut rows)?, 0);
+/// assert_eq!(function::refresh_functions(&file, Layout::Legacy16, 0, 1, 1..1, &mut rows, &mut totals)?, 0);
+///
+/// // Totals of other rows: the 12 of this one are not in them.
+/// let mut other = Totals::default();
+/// let refusal =
+///     function::refresh_functions(&file, Layout::Legacy16, 0, 1, .., &mut rows, &mut other).unwrap_err();
+/// assert_eq!((refusal.reason(), refusal.place), (Reason::BadTotals, 0));
+/// assert_eq!((other, totals), (Totals::default(), Totals::of(&rows)));
 /// # Ok::<(), bisquepond::Refusal>(())
 /// ```
 pub fn refresh_functions(
@@ -645,9 +738,10 @@ pub fn refresh_functions(
     count: u32,
     span: impl RangeBounds<usize>,
     rows: &mut [FunctionRow],
+    totals: &mut Totals,
 ) -> Result<u32> {
     let span = span_of(&span, file.len());
-    boundary::refresh_functions(file, layout.number(), start, count, span, rows)
+    boundary::refresh_functions(file, layout.number(), start, count, span, rows, totals)
 }
 
 /// What a function is read from, as places in the file: its header, and the large header if its flag names one.
@@ -758,7 +852,7 @@ pub fn read_functions(
         }
     }
     let mut rows = Table::zeros(count as usize);
-    read_functions_into(file, layout, start, count, rows.lent())?;
+    let (_, totals) = read_functions_into(file, layout, start, count, rows.lent())?;
     Ok(FunctionTable {
         layout,
         start,
@@ -766,6 +860,7 @@ pub fn read_functions(
         length: file.len(),
         pending: None,
         rows,
+        totals,
     })
 }
 
@@ -931,8 +1026,8 @@ pub fn renew_info_offsets(rows: &mut [FunctionRow], large: usize) {
     }
 }
 
-/// The functions of one file, with the layout and the start that they were read by. It is a slice of rows. Two are equal
-/// if these and the rows are.
+/// The functions of one file, with the layout and the start that they were read by, and with their totals. It is a slice of
+/// rows. Two are equal if layout, start and rows are; then the totals are too.
 ///
 /// ```
 /// use bisquepond::{Layout, function};
@@ -946,7 +1041,7 @@ pub fn renew_info_offsets(rows: &mut [FunctionRow], large: usize) {
 /// # Ok::<(), bisquepond::Refusal>(())
 /// ```
 ///
-/// Its rows stay what was read, or a refresh could leave them wrong:
+/// Its rows stay what was read, or a refresh could leave them wrong, and the totals with them:
 ///
 /// ```compile_fail,E0596
 /// # let mut table = bisquepond::function::read_functions(&[0; 16], bisquepond::Layout::Legacy16, 0, 1).unwrap();
@@ -972,6 +1067,8 @@ pub struct FunctionTable {
     /// Bytes of which a refresh was refused, so that their rows may be out of date.
     pending: Option<(usize, usize)>,
     rows: Table<FunctionRow>,
+    /// Those of the rows: both are changed by a refresh alone.
+    totals: Totals,
 }
 
 impl FunctionTable {
@@ -1010,6 +1107,23 @@ impl FunctionTable {
     /// ```
     pub fn words(&self) -> &[u32] {
         self.rows.words()
+    }
+
+    /// How many of its rows were read from large headers, and the sum of their sizes: always those of the rows as they are,
+    /// and nothing is added up to answer them.
+    ///
+    /// ```
+    /// # use bisquepond::{Layout, function};
+    /// let mut file = [0; 48];
+    /// let mut table = function::read_functions(&file, Layout::Legacy16, 0, 3)?;
+    /// file[20] = 7; // the size of function 1
+    /// let before = table.totals();
+    /// assert_eq!(table.refresh(&file, 20..21)?.len(), 1);
+    /// assert_eq!((before.sizes(), table.totals().sizes()), (0, 7));
+    /// # Ok::<(), bisquepond::Refusal>(())
+    /// ```
+    pub const fn totals(&self) -> Totals {
+        self.totals
     }
 
     /// Writes the table as headers into a buffer that is lent, in the layout and at the start that it was read by:
@@ -1073,11 +1187,11 @@ impl FunctionTable {
         self.pending.map(|(low, high)| low..high)
     }
 
-    /// Brings the table up to date after the bytes of `span` changed, and nothing else: what a fresh read of `file` would
-    /// give, or that read's refusal. Answers which functions were read again.
+    /// Brings the table and its totals up to date after the bytes of `span` changed, and nothing else: what a fresh read of
+    /// `file` would give, or that read's refusal. Answers which functions were read again.
     ///
-    /// Refused, no row is changed, and the span is remembered ([`pending`](Self::pending)): the next refresh reads again
-    /// what has a part in the bytes from the first to the last that are not taken in.
+    /// Refused, no row and no total is changed, and the span is remembered ([`pending`](Self::pending)): the next refresh
+    /// reads again what has a part in the bytes from the first to the last that are not taken in.
     ///
     /// ```
     /// use bisquepond::{Layout, function};
@@ -1105,7 +1219,8 @@ impl FunctionTable {
     ///
     /// `AnotherLength` if the file has not as many bytes as the one that the table was read from: it is to be read again.
     /// `BadSpan` if the span is reversed or goes past the end. `Cut` with the first function whose header is not wholly in
-    /// the file as place; `PastEnd` or `Cut` with the first function that has a part in the span and cannot be read.
+    /// the file as place; `PastEnd` or `Cut` with the first function that has a part in the span and cannot be read. Never
+    /// `BadTotals`: its totals are those of its rows.
     ///
     /// ```
     /// use bisquepond::{Layout, Reason, function};
@@ -1152,9 +1267,10 @@ impl FunctionTable {
             true => hull(self.pending, span).unwrap_or(span),
             false => span,
         };
-        let rows = self.rows.lent();
+        let (rows, totals) = (self.rows.lent(), &mut self.totals);
+        let number = layout.number();
         let read =
-            boundary::refresh_functions(file, layout.number(), start, count, (low, high), rows)?;
+            boundary::refresh_functions(file, number, start, count, (low, high), rows, totals)?;
         Ok(Refreshed {
             file,
             layout,

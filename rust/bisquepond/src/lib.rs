@@ -19,7 +19,7 @@
 //! | module | what it reads |
 //! |---|---|
 //! | [`io`] | numbers, LEB128 and strings at a position in the bytes |
-//! | [`function`] | function headers of both layouts, the refresh of a table after an edit, and edited rows written as headers |
+//! | [`function`] | function headers of both layouts, the refresh of a table and its totals after an edit, and edited rows written as headers |
 //! | [`table`] | tables of words and pairs, strings, and their texts |
 //! | [`literal`] | literals, series of them, and the keys and values of objects |
 //! | [`parsing`] | exception handlers, why a function has none, and trailing sections |
@@ -30,8 +30,9 @@
 //! other allocates what the answer needs. How much that is is decided by the bytes, never by a count alone; a table that is
 //! written into a vector makes it as long as the places say that it is given.
 //!
-//! A call that is refused leaves every lent row, and every byte of a lent buffer, as it was. Under *Errors* each call
-//! names what it is refused for, in the order in which it is looked for: the names are those of [`Reason`].
+//! A call that is refused leaves every lent row, every lent total, and every byte of a lent buffer, as it was. Under
+//! *Errors* each call names what it is refused for, in the order in which it is looked for: the names are those of
+//! [`Reason`].
 //!
 //! It is `no_std` with `alloc`. What is linked besides the archive is `memcpy` and `memset`, which every Rust program has.
 //! Calls share no data: any number of threads may make them at once, each with rows of its own.

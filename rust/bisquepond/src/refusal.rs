@@ -162,6 +162,9 @@ reasons! {
     BadInfoOffset = 14, "a modern row that needs a large header has not the rounded end of it as info_offset";
     /// The place for large headers is before the table's end.
     LargeBeforeEnd = 15, "the place for large headers is before the end of the table";
+    /// A total falls below 0 by what a row that is read again has in it, or is above 2^63 - 1: the totals lent are not those
+    /// of the rows lent. [`Totals::of`](crate::function::Totals::of) adds them up anew.
+    BadTotals = 16, "the totals that were lent are not those of the rows: one falls below 0, or is above 2^63 - 1";
     /// The file has another length than the one that the table was read from. This crate's own.
     AnotherLength = 100, "the file has another length than the one that the table was read from";
 }
@@ -227,6 +230,10 @@ impl fmt::Display for Refusal {
             (Reason::Cut, Place::Function) => write!(
                 f,
                 "the header or the large header of function {place} runs past the end of the file"
+            ),
+            (Reason::BadTotals, Place::Function) => write!(
+                f,
+                "the totals that were lent are not those of the rows: with function {place} one falls below 0, or is above 2^63 - 1"
             ),
             (Reason::PastEnd, Place::Row) => {
                 write!(f, "the table's start is past the end of the buffer")
@@ -295,13 +302,22 @@ mod tests {
                 .to_string()
         };
         let sentence = |number| said(number).split_once(": ").unwrap().1.to_string();
-        let mut all: Vec<String> = (1..=16).map(sentence).collect();
+        let mut all: Vec<String> = (1..=17).map(sentence).collect();
         assert_eq!(all[11], Reason::NoSuchLayout.to_string());
-        assert_eq!(all[14], Reason::LargeBeforeEnd.to_string());
-        assert_eq!(all[15], "a refusal that this version has no words for");
+        assert_eq!(all[15], Reason::BadTotals.to_string());
+        assert_eq!(all[16], "a refusal that this version has no words for");
         all.sort();
         all.dedup();
-        assert_eq!(all.len(), 16);
+        assert_eq!(all.len(), 17);
+    }
+
+    /// Which function was met when a total went wrong.
+    #[test]
+    fn the_function_of_wrong_totals_is_named() {
+        let said = |of| Refusal::of(Reason::BadTotals, 7, of).to_string();
+        let (named, plain) = (said(Place::Function), said(Place::Nothing));
+        assert!(named.starts_with("refused 16 at 7: ") && named.contains("function 7 "));
+        assert!(!plain.contains("function"));
     }
 
     /// A writer's refusals speak of its rows and its buffer, a reader's of functions and a file.

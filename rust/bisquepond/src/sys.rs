@@ -61,8 +61,8 @@ unsafe extern "C" {
     pub fn hbc_read_series(s: *const u8, s_len: usize, offset: u32, count: u32, kinds: *mut u32, kinds_len: usize, payloads: *mut u64, payloads_len: usize) -> u64;
     pub fn hbc_read_object(keys: *const u8, keys_len: usize, values: *const u8, values_len: usize, of_keys: u32, offset: u32, count: u32, kinds: *mut u32, kinds_len: usize, payloads: *mut u64, payloads_len: usize) -> u64;
 
-    pub fn hbc_read_functions(file: *const u8, file_len: usize, layout: u32, start: usize, count: u32, table: *mut u32, table_len: usize) -> u64;
-    pub fn hbc_refresh_functions(file: *const u8, file_len: usize, layout: u32, start: usize, count: u32, low: usize, high: usize, table: *mut u32, table_len: usize) -> u64;
+    pub fn hbc_read_functions(file: *const u8, file_len: usize, layout: u32, start: usize, count: u32, table: *mut u32, table_len: usize, large: *mut u64, sizes: *mut u64) -> u64;
+    pub fn hbc_refresh_functions(file: *const u8, file_len: usize, layout: u32, start: usize, count: u32, low: usize, high: usize, table: *mut u32, table_len: usize, large: *mut u64, sizes: *mut u64) -> u64;
     pub fn hbc_read_function(file: *const u8, file_len: usize, layout: u32, start: usize, id: u32, table: *mut u32, table_len: usize) -> u64;
     pub fn hbc_function_ground(file: *const u8, file_len: usize, layout: u32, start: usize, id: u32, header: *mut usize, large: *mut usize) -> u64;
     pub fn hbc_function_meets(file: *const u8, file_len: usize, layout: u32, start: usize, id: u32, low: usize, high: usize) -> u64;

@@ -2,7 +2,7 @@
 //! out.
 
 use bisquepond::debug::{self, CalleeRow, LentTables, NameRow, ScopeRow, TextRow};
-use bisquepond::function::{self, FunctionRow, Ground, Rest};
+use bisquepond::function::{self, FunctionRow, Ground, Rest, Totals};
 use bisquepond::io::ByteReader;
 use bisquepond::literal::{self, Literal, Objects};
 use bisquepond::parsing::{self, HandlerRow, SectionCounts};
@@ -410,8 +410,10 @@ fn refused_4_leaves_every_row() {
     let mut rows = [kept[0], kept[1]];
     let two = function::read_functions_into(&[0; 48], Layout::Legacy16, 0, 3, &mut rows);
     assert_eq!(refused(two), (4, 0));
-    let two = function::refresh_functions(&[0; 48], Layout::Legacy16, 0, 3, 0..1, &mut rows);
+    let (layout, mut totals) = (Layout::Legacy16, Totals::of(kept));
+    let two = function::refresh_functions(&[0; 48], layout, 0, 3, 0..1, &mut rows, &mut totals);
     assert_eq!((refused(two), &rows[..]), ((4, 0), kept));
+    assert_eq!(totals, Totals::of(kept));
     let mut words = [7; 2];
     let three = ByteReader::new(&[0; 12]).read_u32_table_into(3, &mut words);
     assert_eq!((refused(three), words), ((4, 0), [7; 2]));
@@ -1054,9 +1056,9 @@ fn words_that_stay() {
 
         let mut words = before.clone();
         let rows = FunctionRow::rows_mut(&mut words);
-        let span = own..own + 1;
-        let again = function::refresh_functions(&file, layout, 0, 3, span, rows);
-        assert_eq!(again, Ok(1));
+        let (span, mut totals) = (own..own + 1, Totals::of(rows));
+        let again = function::refresh_functions(&file, layout, 0, 3, span, rows, &mut totals);
+        assert_eq!((again, totals), (Ok(1), Totals::of(rows)));
         assert_eq!(row(&words, 0), row(&before, 0));
         assert_eq!(row(&words, 1), row(fresh.words(), 1));
         assert_eq!(
@@ -1075,10 +1077,12 @@ fn words_that_stay() {
         let mut words = before.clone();
         let rows = FunctionRow::rows_mut(&mut words);
         let cut = &file[..3 * own + 20];
-        let read = function::read_functions_into(cut, layout, 0, 3, rows).map(|rows| rows.len());
-        assert_eq!(refused(read), (3, 1));
-        let again = function::refresh_functions(cut, layout, 0, 3, .., rows);
+        let read = function::read_functions_into(cut, layout, 0, 3, rows);
+        assert_eq!(refused(read.map(|(rows, _)| rows.len())), (3, 1));
+        let mut totals = Totals::default();
+        let again = function::refresh_functions(cut, layout, 0, 3, .., rows, &mut totals);
         assert_eq!((refused(again), words), ((3, 1), before));
+        assert_eq!(totals, Totals::default());
     }
 }
 
@@ -1102,10 +1106,12 @@ fn words_that_make_no_row() {
             let (table, enough) = (lent.as_mut_ptr(), count <= rows);
             let (mut total, mut handlers, mut buffer) = (0, 9, [7; 64]);
             let (bytes, none) = (buffer.as_mut_ptr(), [0; 0].as_mut_ptr());
+            let (mut a, mut b) = (0, 0);
+            let (large, sizes) = (&mut a, &mut b);
             let codes = unsafe {
                 [
-                    hbc_read_functions(s, len, 0, 0, count, table, words),
-                    hbc_refresh_functions(s, len, 0, 0, count, 0, 64, table, words),
+                    hbc_read_functions(s, len, 0, 0, count, table, words, large, sizes),
+                    hbc_refresh_functions(s, len, 0, 0, count, 0, 64, table, words, large, sizes),
                     hbc_write_functions(table, words, 0, 0, count, 64, bytes, 64),
                     hbc_read_handlers(s, len, table, words, count, none, 0, &mut total),
                     hbc_why_no_handlers(s, len, table, words, count, &mut handlers),

@@ -206,7 +206,7 @@ fn refusals_have_the_same_names() {
     let here = Reason::ALL.iter().filter(own);
     let here = here.map(|reason| (upper(&format!("{reason:?}")), reason.number()));
     assert_eq!(in_c, here.collect());
-    assert_eq!(in_c.len(), 15);
+    assert_eq!(in_c.len(), 16);
 }
 
 /// Every answer of `hbc_why_no_handlers` that the header names is one of the same name and number here, and the other way

@@ -306,7 +306,7 @@ fn a_vector_grows_as_it_must() {
                 function::write_functions(&inline, layout, 20, place - 1, &mut bytes),
                 function::write_functions(&inline, layout, usize::MAX, usize::MAX, &mut bytes),
             ];
-            let reasons = answers.map(|answer| refused(answer));
+            let reasons = answers.map(refused);
             let expected = [
                 (Reason::BadRow, 8),
                 (Reason::LargeBeforeEnd, 0),

@@ -50,6 +50,17 @@ pub fn guarded<T: Word>(words: &[T], len: usize) -> Vec<T> {
     lent(all, FRONT + len)
 }
 
+/// What is lent of such words.
+pub fn inside<T>(guarded: &[T]) -> &[T] {
+    &guarded[FRONT..guarded.len() - BEHIND]
+}
+
+/// Whether those in front and those behind are as they were.
+pub fn kept<T: Word>(guarded: &[T]) -> bool {
+    let mut outside = (0..FRONT).chain(guarded.len() - BEHIND..guarded.len());
+    outside.all(|i| guarded[i] == T::before(i))
+}
+
 /// A copy of these words to be lent, and those behind.
 pub fn copied(words: &[u32]) -> Vec<u32> {
     let mut copy = Vec::with_capacity(words.len() + BEHIND);

@@ -2,11 +2,12 @@
 
 use harness::count;
 
-/// What every word of a lent table holds before a call, and every 64-bit one.
+/// What every word of a lent table holds before a call.
 pub const FILL: u32 = 0xA5A5_A5A5;
 /// The same of a byte of a lent buffer.
 pub const FILL_BYTE: u8 = 0xA5;
-const FILL_LONG: u64 = 0xA5A5_A5A5_A5A5_A5A5;
+/// And of a 64-bit one, which stands for a number that an answer has not.
+pub const FILL_LONG: u64 = 0xA5A5_A5A5_A5A5_A5A5;
 
 /// The bytes for which each program has room.
 pub const MOST_BYTES: usize = 500_000;
@@ -32,6 +33,7 @@ pub const WRITE_FUNCTIONS: u64 = 30;
 pub const DECODE_STRINGS_HERMES: u64 = 31;
 pub const STRING_TEXT: u64 = 32;
 pub const WHY_NO_HANDLERS: u64 = 33;
+pub const READ_THEN_REFRESHED: u64 = 34;
 
 /// No call: the records before it are counted, and told under the name that follows.
 const REPORT: u64 = 0;

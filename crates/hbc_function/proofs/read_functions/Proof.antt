@@ -1,10 +1,10 @@
-use mathlib.Core.Path.{refl, ap, _∙_}
+use mathlib.Core.Path.{refl, ap}
 use native.Mathlib.Omega.{arith}
 use Rattle.hbc_io.specs.Answer.{refuses}
 use Rattle.hbc_function_header.specs.Header.{saysReading}
 use Rattle.hbc_io.proofs.Exits.{stop, past, given, refused}
 use Rattle.hbc_function.specs.Table.{readAnswer}
-use Rattle.hbc_function.proofs.Passes.{put-whole}
+use Rattle.hbc_function.proofs.Sums.{read-lent}
 use borrow.Author.Needs.{needs}
 use Rattle.hbc_function.proofs.read_functions.Statement.{statement}
 use Rattle.hbc_function.proofs.read_functions.Tie as tie
@@ -50,7 +50,7 @@ same-length c = search needs
 
 returns-4 : tie.Need-returns-4
 unfolding readAnswer
-returns-4 c = past _ _ _ _ (omega arith) (past _ _ _ _ (omega arith) (past _ _ _ _ (omega arith) (given (ap saysReading (c .before .before .before .before .enum-told .given .1)) (c .before .before .before .before .before .before .check-all .ensures) (c .before .before .write-rows .ensures ∙ put-whole _ _ _))))
+returns-4 c = past _ _ _ _ (omega arith) (past _ _ _ _ (omega arith) (past _ _ _ _ (omega arith) (given (ap saysReading (c .before .before .before .before .enum-told .given .1)) (c .before .before .before .before .before .before .check-all .ensures) (read-lent _ _ _ (c .before .before .write-rows .ensures .0) (c .before .before .write-rows .ensures .1)))))
 
 returns-5 : tie.Need-returns-5
 unfolding readAnswer

@@ -1,10 +1,11 @@
-use mathlib.Core.Path.{refl, ap, sym, _∙_}
+use denote.Ref.{now}
+use mathlib.Core.Path.{refl, ap, _∙_}
 use native.Mathlib.Omega.{arith}
 use Rattle.hbc_io.specs.Outcome.{refusalAt}
 use Rattle.hbc_io.specs.Answer.{refuses}
-use Rattle.hbc_io.proofs.Exits.{stop, past, given, refused}
+use Rattle.hbc_io.proofs.Exits.{stop, past}
 use Rattle.hbc_function.specs.Refresh.{refreshAnswer}
-use Rattle.hbc_function.proofs.Laws.{fresh-by}
+use Rattle.hbc_function.proofs.Sums.{solid-of, checked-met, checked-refused, checked-by, settled, stopped, held-short}
 use borrow.Author.Needs.{needs}
 use Rattle.hbc_function.proofs.refresh_functions.Statement.{statement}
 use Rattle.hbc_function.proofs.refresh_functions.Tie as tie
@@ -69,8 +70,11 @@ check-met-requires c κs = search needs
 enum-known-n : tie.Need-enum-known-n
 enum-known-n c = search needs
 
-patch-met-requires : tie.Need-patch-met-requires
-patch-met-requires c κs = ((omega arith, omega arith, omega arith, omega arith), (c .before .before .before .before .before .next-met .ensures, (sym (fresh-by (c .before .before .before .before .check-met .ensures) (c .before .before .n .given .1)), omega arith)))
+settle-requires : tie.Need-settle-requires
+settle-requires c κs =
+    let f = checked-met _ _ (checked-by (c .before .before .before .before .before .before .check-met .ensures .0) (c .before .before .before .before .n .given .1)) in let h = held-short (now (c .before .before .before .before .before .before .before .before .before .before .before .before .before .before .before .before .before .before .args .file)) (c .before .before .before .before .before .before .before .before .before .before .before .before .before .before .before .before .before .before .args .layout) (c .before .before .before .before .before .before .before .before .before .before .before .before .before .before .before .before .before .before .args .start) in
+    let q = c .before .before .before .before .before .before .before .before .before .before .room-for .ensures in
+    ((omega arith, omega arith, omega arith, omega arith), (c .before .before .before .before .before .before .before .before .next-met .ensures, (f .0, ((omega arith, omega arith), (f .1, solid-of (c .before .before .before .before .before .before .check-met .ensures .1) (c .before .before .before .before .n .given .1))))))
 
 enum-known-r : tie.Need-enum-known-r
 enum-known-r c = search needs
@@ -80,11 +84,14 @@ same-length c = search needs
 
 returns-7 : tie.Need-returns-7
 unfolding refreshAnswer
-returns-7 c = past _ _ _ _ (omega arith) (past _ _ _ _ (omega arith) (past _ _ _ _ (omega arith) (past _ _ _ _ (omega arith) (past _ _ _ _ (omega arith) (past _ _ _ _ (omega arith) (given refl (fresh-by (c .before .before .before .before .before .before .before .check-met .ensures) (c .before .before .before .before .before .n .given .1)) (c .before .before .patch-met .ensures)))))))
+returns-7 c = past _ _ _ _ (omega (arith, c .before .before .before .before .before .before .before .before .before .before .before .before .before .before .before .before .before .before .if1 .left)) (past _ _ _ _ (omega (arith, c .before .before .before .before .before .before .before .before .before .before .before .before .before .before .before .before .before .if2 .left)) (past _ _ _ _ (omega (arith, c .before .before .before .before .before .before .before .before .before .before .before .before .before .before .before .before .if3 .left)) (past _ _ _ _ (omega (arith, c .before .before .before .before .before .before .before .before .before .before .before .before .before .before .before .if4 .left)) (past _ _ _ _ (omega (arith, c .before .before .before .before .before .before .before .before .before .before .before .before .before .before .if5 .left)) (past _ _ _ _ (omega (arith, c .before .before .before .before .before .before .before .before .before .before .before .before .if6 .left)) (settled _ _ _ _ _ _ _ _ (checked-met _ _ (checked-by (c .before .before .before .before .before .before .before .before .before .check-met .ensures .0) (c .before .before .before .before .before .before .before .n .given .1)) .0) (c .before .before .settle .ensures)))))))
+
+same-length-2 : tie.Need-same-length-2
+same-length-2 c = search needs
 
 returns-8 : tie.Need-returns-8
 unfolding refreshAnswer
-returns-8 c = past _ _ _ _ (omega arith) (past _ _ _ _ (omega arith) (past _ _ _ _ (omega arith) (past _ _ _ _ (omega arith) (past _ _ _ _ (omega arith) (past _ _ _ _ (omega arith) (refused refl (fresh-by (c .before .before .before .check-met .ensures) (c .before .r .given .1))))))))
+returns-8 c = past _ _ _ _ (omega arith) (past _ _ _ _ (omega arith) (past _ _ _ _ (omega arith) (past _ _ _ _ (omega arith) (past _ _ _ _ (omega arith) (past _ _ _ _ (omega arith) (stopped _ _ _ _ _ _ 0 _ (checked-refused _ _ (checked-by (c .before .before .before .check-met .ensures .0) (c .before .r .given .1)))))))))
 
 pub refresh-functions-spec : {M : Type 1} → statement M
 refresh-functions-spec =
@@ -108,8 +115,9 @@ refresh-functions-spec =
     next-met-requires
     check-met-requires
     enum-known-n
-    patch-met-requires
+    settle-requires
     enum-known-r
     same-length
     returns-7
+    same-length-2
     returns-8)

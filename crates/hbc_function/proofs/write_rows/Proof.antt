@@ -24,13 +24,17 @@ same-length : tie.Need-same-length
 same-length c = search needs
 
 returns : tie.Need-returns
-returns c = c .before .before .write-legacy .ensures ∙ ap (λ (l : Layout). putRows (leb (c .before .before .before .before .before .before .before .before .args .from)) (functionAt (now (c .before .before .before .before .before .before .before .before .args .s)) l (c .before .before .before .before .before .before .before .before .args .start)) (now (c .before .before .before .before .before .before .before .before .args .table)) (c .before .before .before .before .before .before .before .before .args .to)) (sym (c .before .before .before .before .enum-told .given .1))
+returns c =
+    let r = c .before .before .write-legacy .ensures in
+    (r .0 ∙ ap (λ (l : Layout). putRows (leb (c .before .before .before .before .before .before .before .before .args .from)) (functionAt (now (c .before .before .before .before .before .before .before .before .args .s)) l (c .before .before .before .before .before .before .before .before .args .start)) (now (c .before .before .before .before .before .before .before .before .args .table)) (c .before .before .before .before .before .before .before .before .args .to)) (sym (c .before .before .before .before .enum-told .given .1)), r .1, r .2, r .3)
 
 same-length-2 : tie.Need-same-length-2
 same-length-2 c = search needs
 
 returns-2 : tie.Need-returns-2
-returns-2 c = c .before .before .write-modern .ensures ∙ ap (λ (l : Layout). putRows (leb (c .before .before .before .before .before .before .before .before .args .from)) (functionAt (now (c .before .before .before .before .before .before .before .before .args .s)) l (c .before .before .before .before .before .before .before .before .args .start)) (now (c .before .before .before .before .before .before .before .before .args .table)) (c .before .before .before .before .before .before .before .before .args .to)) (sym (c .before .before .before .before .enum-told2 .given .1))
+returns-2 c =
+    let r = c .before .before .write-modern .ensures in
+    (r .0 ∙ ap (λ (l : Layout). putRows (leb (c .before .before .before .before .before .before .before .before .args .from)) (functionAt (now (c .before .before .before .before .before .before .before .before .args .s)) l (c .before .before .before .before .before .before .before .before .args .start)) (now (c .before .before .before .before .before .before .before .before .args .table)) (c .before .before .before .before .before .before .before .before .args .to)) (sym (c .before .before .before .before .enum-told2 .given .1)), r .1, r .2, r .3)
 
 pub write-rows-spec : {M : Type 1} → statement M
 write-rows-spec =

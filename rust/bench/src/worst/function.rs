@@ -209,22 +209,32 @@ impl Table {
     fn read(self) -> (u64, impl FnMut() -> u64) {
         let mut rows = vec![0; ROW * self.count];
         let answer = self.count as u64;
-        let read = move || {
-            let (s, len) = (self.bytes.as_ptr(), self.bytes.len());
-            let (lent, words) = (rows.as_mut_ptr(), rows.len());
-            let count = self.count as u32;
-            unsafe { hbc_read_functions(s, len, self.layout, self.start, count, lent, words) }
-        };
+        let read = move || self.read_with(&mut rows, &mut [0; 2]);
         (answer, read)
     }
 
+    fn read_with(&self, rows: &mut [u32], [large, sizes]: &mut [u64; 2]) -> u64 {
+        let (s, len) = (self.bytes.as_ptr(), self.bytes.len());
+        let (lent, words) = (rows.as_mut_ptr(), rows.len());
+        let (layout, start, count) = (self.layout, self.start, self.count as u32);
+        unsafe { hbc_read_functions(s, len, layout, start, count, lent, words, large, sizes) }
+    }
+
+    /// Of rows that were read, with their totals, which go from call to call.
     fn refresh(self, low: usize, high: usize) -> impl FnMut() -> u64 {
-        let mut rows = vec![0; ROW * self.count];
+        let (mut rows, mut totals) = (vec![0; ROW * self.count], [0; 2]);
+        let read = self.read_with(&mut rows, &mut totals);
+        assert_eq!(read, self.count as u64, "a table that can be read");
         move || {
             let (s, len) = (self.bytes.as_ptr(), self.bytes.len());
             let (lent, words) = (rows.as_mut_ptr(), rows.len());
             let (layout, count) = (self.layout, self.count as u32);
-            unsafe { hbc_refresh_functions(s, len, layout, 0, count, low, high, lent, words) }
+            let [large, sizes] = &mut totals;
+            unsafe {
+                hbc_refresh_functions(
+                    s, len, layout, 0, count, low, high, lent, words, large, sizes,
+                )
+            }
         }
     }
 }

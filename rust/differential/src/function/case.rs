@@ -1,5 +1,6 @@
 //! One call on function headers.
 
+pub mod totals;
 pub mod write;
 
 use bisquepond::function::FunctionRow;
@@ -10,14 +11,16 @@ use published::file::parser::function::parse_function_headers;
 use published::format::{empty_header, FunctionHeader, FunctionHeaderLayout, FLAG_OVERFLOWED};
 use published::io::ByteReader;
 
-use crate::case::{self, bytes_word, printed, replayed, table_word};
+use self::totals::{carried, Lent, Totals};
+use crate::case::{self, bytes_word, printed, replayed, said, table_word};
 use crate::case::{Compare, Difference, Refusal, Words};
-use crate::lent::{copied, Answer, Word};
+use crate::lent::{first_wrong, guarded, inside, kept, Word, FRONT};
 use crate::meter;
 use crate::search::last;
 
-/// The words of a row, and three of them.
+/// The words of a row, and four of them.
 pub const ROW: usize = FunctionRow::WORDS;
+pub const SIZE: usize = 4;
 pub const INFO_OFFSET: usize = 6;
 pub const FLAGS: usize = 8;
 pub const PLACE: usize = 16;
@@ -150,6 +153,8 @@ pub struct Case<'a> {
     pub high: usize,
     /// The words lent, as they are before the call.
     pub table: &'a [u32],
+    /// The totals lent, likewise; where none are named, those of the rows lent to a refresh, and others to a read.
+    pub totals: Option<Totals>,
 }
 
 /// The record by the Rust's header of a function.
@@ -241,8 +246,9 @@ pub fn one(file: &[u8], layout: Layout, start: usize, id: u32) -> Result<Row, Re
     Ok(row)
 }
 
-/// What is right: records and their refusals by the Rust, all else by docs/FORMAT.md. The rows are written into `table`.
-pub fn right(case: &Case, table: &mut [u32]) -> Result<u32, Refusal> {
+/// What is right: records and their refusals by the Rust, all else by docs/FORMAT.md. The rows are written into `table`, and
+/// the totals into `totals`.
+pub fn right(case: &Case, table: &mut [u32], totals: &mut Totals) -> Result<u32, Refusal> {
     let Case { op, file, start, count, low, high, .. } = *case;
     let layout = *LAYOUTS.get(case.layout as usize).ok_or((12, 0))?;
     let meets = |&id: &u32| layout.meets(file, start, id, low, high);
@@ -284,11 +290,32 @@ pub fn right(case: &Case, table: &mut [u32]) -> Result<u32, Refusal> {
         }
         _ => vec![(0, one(file, layout, start, count)?)],
     };
+    if op == Refresh {
+        let old = |i: usize| &table[i * ROW..][..ROW];
+        let rewritten = written.iter().map(|(i, row)| (*i as u32, old(*i), &row[..]));
+        let carried = carried(*totals, rewritten);
+        assert!(carried.is_ok() || case.totals.is_some(), "true totals are refused");
+        *totals = carried?;
+    }
     for (i, row) in &written {
         table[i * ROW..][..ROW].copy_from_slice(row);
     }
+    if op == Read {
+        *totals = totals::of(table, count);
+    }
     Ok(written.len() as u32)
 }
+
+/// The answer, every word of the table as it is afterwards, those behind it too, and the totals.
+#[derive(Clone, PartialEq, Eq)]
+pub struct Answer {
+    pub code: u64,
+    pub table: Vec<u32>,
+    pub totals: Totals,
+}
+
+/// Bytes of a file that is lent as a copy, with bytes on both sides.
+const COPIED: usize = 1 << 12;
 
 impl Case<'_> {
     /// Another call on the same, of so many functions or about one.
@@ -296,17 +323,27 @@ impl Case<'_> {
         Case { op, count, ..self }
     }
 
+    /// The totals that are lent.
+    pub fn lent(&self) -> Totals {
+        self.totals.unwrap_or_else(|| match self.op {
+            Refresh => totals::of(self.table, self.count),
+            _ => [0, 1].map(Word::before),
+        })
+    }
+
     /// The call itself, with a table of so many words.
-    pub fn make(&self, table: *mut u32, words: usize) -> u64 {
+    pub fn make(&self, table: *mut u32, words: usize, totals: &mut Lent) -> u64 {
         let (s, len) = (self.file.as_ptr(), self.file.len());
         let (layout, start, count) = (self.layout, self.start, self.count);
-        let (low, high) = (self.low, self.high);
+        let (low, high, [large, sizes]) = (self.low, self.high, totals.lent());
         meter::call(|| unsafe {
             match self.op {
-                Read => hbc_read_functions(s, len, layout, start, count, table, words),
-                Refresh => {
-                    hbc_refresh_functions(s, len, layout, start, count, low, high, table, words)
+                Read => {
+                    hbc_read_functions(s, len, layout, start, count, table, words, large, sizes)
                 }
+                Refresh => hbc_refresh_functions(
+                    s, len, layout, start, count, low, high, table, words, large, sizes,
+                ),
                 One => hbc_read_function(s, len, layout, start, count, table, words),
                 Ground => unreachable!("it is lent two numbers and no table"),
                 Meets => hbc_function_meets(s, len, layout, start, count, low, high),
@@ -323,7 +360,7 @@ impl Case<'_> {
             hbc_function_ground(s, len, layout, start, id, &mut header, &mut large)
         });
         table.copy_from_slice([halves(header), halves(large)].as_flattened());
-        Answer { code, table: copied(&table) }
+        Answer { code, table: behind(&table), totals: self.lent() }
     }
 
     /// Compares a refresh with a fresh read of the same file by the Rust as well. `self.table` begins with the rows of
@@ -331,18 +368,26 @@ impl Case<'_> {
     pub fn compare_fresh(&self) -> Result<Answer, Difference> {
         let given = self.compare()?;
         let layout = LAYOUTS[self.layout as usize];
-        let mut table = copied(self.table);
+        let (mut table, mut totals) = (behind(self.table), self.lent());
         let answer = fresh(self.file, layout, self.start, self.count).map(|rows| {
             table[..rows.len() * ROW].copy_from_slice(rows.as_flattened());
+            totals = totals::of(rows.as_flattened(), self.count);
             place(given.code)
         });
         let code = case::code(answer);
-        let same = self.same(Ok(given), &Answer { code, table });
+        let same = self.same(Ok(given), &Answer { code, table, totals });
         same.map_err(|Difference(mut lines)| {
             lines.push("expected  by a fresh read of the same file".to_string());
             Difference(lines)
         })
     }
+}
+
+/// The words of a table, and those behind it.
+fn behind(table: &[u32]) -> Vec<u32> {
+    let mut all = guarded(table, table.len());
+    all.drain(..FRONT);
+    all
 }
 
 impl Compare for Case<'_> {
@@ -353,22 +398,34 @@ impl Compare for Case<'_> {
         if self.op == Ground {
             return Ok(self.ground());
         }
-        let mut table = copied(self.table);
-        let code = self.make(table.as_mut_ptr(), self.table.len());
-        Ok(Answer { code, table })
+        let (mut table, mut totals) =
+            (guarded(self.table, self.table.len()), Lent::new(self.lent()));
+        let copy = (self.file.len() < COPIED).then(|| guarded(self.file, self.file.len()));
+        let file = copy.as_deref().map_or(self.file, inside);
+        let call = Case { file, ..*self };
+        let code = call.make(table[FRONT..].as_mut_ptr(), self.table.len(), &mut totals);
+        if copy.is_some_and(|copy| !kept(&copy) || inside(&copy) != self.file) {
+            return Err("the file was written, or bytes beside it".to_string());
+        }
+        if table.drain(..FRONT).enumerate().any(|(i, word)| word != Word::before(i)) {
+            return Err("a word in front of the table was written".to_string());
+        }
+        Ok(Answer { code, table, totals: totals.held()? })
     }
 
     fn right(&self, _: Option<&Answer>) -> (Answer, ()) {
-        let before = if self.op == Ground { unsaid() } else { self.table.to_vec() };
-        let mut table = copied(&before);
-        let code = case::code(right(self, &mut table[..before.len()]));
-        (Answer { code, table }, ())
+        let unsaid = (self.op == Ground).then(unsaid);
+        let lent = unsaid.as_deref().unwrap_or(self.table);
+        let (mut table, mut totals) = (behind(lent), self.lent());
+        let code = case::code(right(self, &mut table[..lent.len()], &mut totals));
+        (Answer { code, table, totals }, ())
     }
 
     fn call(&self) -> String {
         let (op, layout, start, count) = (self.op, self.layout, self.start, self.count);
         let (low, high, len, words) = (self.low, self.high, self.file.len(), self.table.len());
-        format!("{op:?}, layout {layout}, start {start}, count or number {count}, span {low} to {high}, {len} bytes of file, {words} words lent")
+        let [large, sizes] = self.lent();
+        format!("{op:?}, layout {layout}, start {start}, count or number {count}, span {low} to {high}, {len} bytes of file, {words} words lent, totals {large} and {sizes}")
     }
 
     fn said(&self, answer: &Answer, right: Option<&Answer>) -> String {
@@ -377,7 +434,13 @@ impl Compare for Case<'_> {
             Ground => "places",
             _ => "rows",
         };
-        answer.words(what, right, ROW)
+        let [large, sizes] = answer.totals;
+        let totals = match self.op {
+            Read | Refresh => format!(", totals {large} and {sizes}"),
+            _ => String::new(),
+        };
+        let table = right.map(|right| &right.table);
+        said(answer.code, what) + &totals + &first_wrong("table", &answer.table, table, ROW)
     }
 
     fn replay(&self) -> Option<String> {
@@ -385,12 +448,13 @@ impl Compare for Case<'_> {
         let (low, high) = (self.low, self.high);
         printed(self.file, &[self.table], &[]).then(|| {
             let (file, table) = (bytes_word(self.file), table_word(self.table));
-            format!("function {op:?} {layout} {start} {count} {low} {high} {file} {table}")
+            let [large, sizes] = self.lent();
+            format!("function {op:?} {layout} {start} {count} {low} {high} {file} {table} {large} {sizes}")
         })
     }
 }
 
-/// `OP LAYOUT START COUNT LOW HIGH FILE TABLE`, as a difference prints them; or `Write ..`, or `Zeros ..`.
+/// `OP LAYOUT START COUNT LOW HIGH FILE TABLE LARGE SIZES`, as a difference prints them; or `Write ..`, or `Zeros ..`.
 pub fn replay(words: &mut Words) -> Result<String, Difference> {
     if words.called("Write") {
         return write::replay(words);
@@ -407,6 +471,7 @@ pub fn replay(words: &mut Words) -> Result<String, Difference> {
         high: words.number()?,
         file: &words.bytes()?,
         table: &words.table()?,
+        totals: Some([words.number()?, words.number()?]),
     };
     replayed(&case, words)
 }

@@ -1,6 +1,7 @@
 //! The differences of the function tables.
 
-use bisquepond::function::{read_functions, read_functions_into, refresh_functions, FunctionRow};
+use bisquepond::function::{read_functions, read_functions_into, refresh_functions};
+use bisquepond::function::{FunctionRow, Totals};
 use bisquepond::sys::{hbc_read_functions, LIMIT};
 use bisquepond::Layout::{Legacy16, Modern12};
 use bisquepond::Row as _;
@@ -16,6 +17,7 @@ use crate::run::Run;
 pub fn listed(run: &mut Run) -> Compared {
     lent(run)?;
     placed(run)?;
+    totalled(run)?;
     refused(run)?;
     memory(run)?;
     longer(run)
@@ -33,7 +35,7 @@ fn ours(file: &[u8], start: usize, count: u32, rows: usize) -> Answer {
     let mut lent = vec![7; rows * ROW];
     let table = FunctionRow::rows_mut(&mut lent);
     let read = read_functions_into(file, Legacy16, start, count, table);
-    let answer = told(read.map(|rows| rows.len() as u32));
+    let answer = told(read.map(|(rows, _)| rows.len() as u32));
     (answer, lent)
 }
 
@@ -71,6 +73,20 @@ fn placed(run: &mut Run) -> Compared {
     Ok(())
 }
 
+/// The same two files: the Rust adds nothing up.
+fn totalled(run: &mut Run) -> Compared {
+    let mut large = [0; 47];
+    (large[0], large[FLAGS]) = (16, FLAGGED);
+    for (file, rows) in [(&[0; 16][..], 0), (&large, 1)] {
+        let read = read_functions(file, Legacy16, 0, 1);
+        let totals = read.map(|table| (table.totals().large(), table.totals().sizes()));
+        row(run, "the totals of a large row, and of none")
+            .rust(legacy(file, 1), Ok(vec![[0; RECORD]]))?
+            .ours(told(totals), Ok((rows, 0)))?;
+    }
+    Ok(())
+}
+
 /// A flagged legacy header: the byte of its flags, and the flag.
 const FLAGS: usize = 15;
 const FLAGGED: u8 = 0x20;
@@ -86,8 +102,8 @@ fn refused(run: &mut Run) -> Compared {
             .ours(ours(&file, 0, count, 2), (Err((3, 0)), left(2)))?;
     }
     for span in [0..0, 0..16] {
-        let mut rows = [FunctionRow::default(); 2];
-        let again = refresh_functions(&file, Legacy16, 0, 2, span, &mut rows);
+        let (mut rows, mut totals) = ([FunctionRow::default(); 2], Totals::default());
+        let again = refresh_functions(&file, Legacy16, 0, 2, span, &mut rows, &mut totals);
         row(run, "a refresh: large header 0 cut, header 1 cut")
             .rust(legacy(&file, 2), Err(cut.into()))?
             .ours(told(again), Err((3, 1)))?;
@@ -116,8 +132,11 @@ fn memory(run: &mut Run) -> Compared {
         return Ok(());
     };
     let (file, count) = (vec![0; ZEROS], u32::MAX);
-    let (rows, len) = (table.as_mut_ptr(), table.len());
-    let given = unsafe { hbc_read_functions(file.as_ptr(), file.len(), 0, 0, count, rows, len) };
+    let (rows, len, [mut large, mut sizes]) = (table.as_mut_ptr(), table.len(), [7; 2]);
+    let (s, bytes) = (file.as_ptr(), file.len());
+    let given =
+        unsafe { hbc_read_functions(s, bytes, 0, 0, count, rows, len, &mut large, &mut sizes) };
+    assert_eq!([large, sizes], [7; 2], "totals of a read that is refused");
     row(run, "g: the same with all rows lent, and what the Rust clamps the count to")
         .rust(ByteReader::new(&file).capacity_hint(count as usize), ZEROS)?
         .ours(given, code(Err((3, whole as u32))))

@@ -1,5 +1,6 @@
 //! The groups of inputs on which the two sides of the function tables are compared.
 
+pub mod totals;
 pub mod write;
 
 use std::collections::BTreeSet;
@@ -29,6 +30,7 @@ pub fn compare(run: &mut Run) -> Compared {
         let mut random = run.random(7);
         (0..20_000).try_for_each(|_| edit(run, &mut random))
     })?;
+    totals::compare(run)?;
     write::compare(run)?;
     run.group("a file of 2^30 bytes", longest)?;
     run.group("2^30 + 1 bytes, against docs/FORMAT.md", too_long)?;
@@ -63,6 +65,7 @@ impl Table {
             low: 0,
             high: 0,
             table,
+            totals: None,
         }
     }
 
@@ -297,6 +300,7 @@ fn edges(run: &mut Run) -> Compared {
                             low: random.below(len + 1),
                             high: random.below(len + 2),
                             table: &lent[..words],
+                            totals: None,
                         };
                         for op in OPS {
                             table.op = op;
@@ -682,11 +686,15 @@ fn many(run: &mut Run) -> Compared {
     Ok(())
 }
 
-/// Edits as above, each call with numbers of any size, and rows that are written.
+/// Edits as above, one by one and one after another, each call with numbers of any size, any totals, and rows that are
+/// written.
 fn random(run: &mut Run) -> Compared {
     let mut random = run.random(10);
+    let mut seen = totals::Seen::default();
     while run.more() {
         edit(run, &mut random)?;
+        totals::any(run, &mut random)?;
+        totals::sequence(run, &mut random, 32, &mut seen)?;
         let table = any_table(&mut random, None);
         let lent = words(&mut random, 15 * ROW);
         let len = table.file.len();
@@ -710,6 +718,10 @@ fn random(run: &mut Run) -> Compared {
                 },
                 low: number(&mut random),
                 high: number(&mut random),
+                totals: match random.below(4) {
+                    0 => None,
+                    _ => Some(totals::any_totals(&mut random, &lent, table.count)),
+                },
                 ..table.case(op, &lent[..random.below(15 * ROW)])
             };
             run.compare(&any)?;

@@ -6,8 +6,10 @@ use bisquepond::sys::LIMIT;
 use harness::Random;
 use published::format::FLAG_OVERFLOWED;
 
-use super::case::{one, Case, Layout, Op, LAYOUTS, OPS, RECORD, ROW};
+use super::case::totals::{of, Lent, Totals, MOST};
+use super::case::{one, Case, Layout, Op, INLINE, LAYOUTS, OPS, PLACE, RECORD, ROW};
 use super::groups::any_table;
+use super::groups::totals::any_totals;
 use crate::case::{Compare, Compared, Difference, Refusal};
 use crate::hostile::{file_of, rows_are, size, Soak};
 use crate::inputs::{any_words, fill};
@@ -85,7 +87,10 @@ fn point(header: &mut [u8], layout: Layout, place: u32) {
     assert_eq!(layout.place(header), Some(place.into()));
 }
 
-/// A call that must be refused, into a table of so many rows that can't be written.
+/// Totals that no table has.
+const FAR: Totals = [u64::MAX; 2];
+
+/// A call that must be refused, into a table of so many rows that can't be written, with totals that are far too high.
 fn told(
     file: &[u8],
     layout: Layout,
@@ -95,29 +100,63 @@ fn told(
     refusal: Refusal,
 ) -> Result<String, Difference> {
     let table = Reserved::new(rows * ROW).expect("addresses for a table that is not written");
-    let case = case(file, layout, op, count, &[]);
-    case.told(case.make(table.as_mut_ptr(), table.len()), Err(refusal))
+    let (case, mut totals) = (case(file, layout, op, count, &[]), Lent::new(FAR));
+    let code = case.make(table.as_mut_ptr(), table.len(), &mut totals);
+    totals_are(&totals, FAR)?;
+    case.told(code, Err(refusal))
+}
+
+/// Sees that the totals are as they were worked out beside.
+fn totals_are(given: &Lent, right: Totals) -> Compared {
+    match given.held()? {
+        held if held == right => Ok(()),
+        held => Err(format!("the totals are {held:?}, not {right:?}").into()),
+    }
 }
 
 /// A call on a table at byte 0, with the whole file as span.
 fn case<'a>(file: &'a [u8], layout: Layout, op: Op, count: u32, table: &'a [u32]) -> Case<'a> {
-    Case { op, file, layout: layout as u32, start: 0, count, low: 0, high: file.len(), table }
+    let (layout, high) = (layout as u32, file.len());
+    Case { op, file, layout, start: 0, count, low: 0, high, table, totals: None }
 }
 
-/// Four million functions, all flagged, whose large headers overlap in the table itself, byte by byte.
+/// Four million functions, all flagged, whose large headers overlap in the table itself, byte by byte. Read, and read again
+/// over rows that were large and over rows that were inline, with totals that just do, or that are wrong at one end.
 fn overlapping(soak: &mut Soak, layout: Layout) -> Compared {
     const COUNT: usize = 1 << 22;
     let size = size(COUNT * (layout.own() + 4 * ROW), COUNT * 4 * ROW * 8);
-    for (op, name) in [(Op::Read, "read"), (Op::Refresh, "refresh")] {
+    let (all, high) = (COUNT as u32, MOST - COUNT as u64);
+    for (op, name, inline, totals, told) in [
+        (Op::Read, "read, large headers that overlap", false, None, Ok(all)),
+        (Op::Refresh, "refresh, large headers that overlap", false, None, Ok(all)),
+        (Op::Refresh, "refresh, a total just 2^63 - 1", true, Some([high, 1 << 40]), Ok(all)),
+        (
+            Op::Refresh,
+            "refresh, a total too high at the last",
+            true,
+            Some([high + 1, 1 << 40]),
+            Err((16, all - 1)),
+        ),
+        (
+            Op::Refresh,
+            "refresh, a total too low at the first",
+            false,
+            Some([0, 1 << 40]),
+            Err((16, 0)),
+        ),
+    ] {
         let mut random = soak.random(4);
-        let name = format!("{layout:?}, {name}, large headers that overlap");
-        soak.case(&name, size, |file| {
+        soak.case(&format!("{layout:?}, {name}"), size, |file| {
             fill(file, COUNT * layout.own(), &flagged(layout));
             for header in file.chunks_exact_mut(layout.own()) {
                 point(header, layout, random.below(COUNT) as u32);
             }
-            let table = vec![7; COUNT * ROW];
-            case(file, layout, op, COUNT as u32, &table).compared()
+            let mut table = vec![7; COUNT * ROW];
+            if inline {
+                table.chunks_exact_mut(ROW).for_each(|row| row[PLACE] = INLINE);
+            }
+            let case = Case { totals, ..case(file, layout, op, all, &table) };
+            case.told(case.compare()?.code, told)
         })?;
     }
     Ok(())
@@ -133,8 +172,15 @@ fn most(soak: &mut Soak, layout: Layout) -> Compared {
             fill(file, LIMIT, &flagged(layout));
             let mut table = vec![7; count * ROW];
             let asked = case(file, layout, op, count as u32, &[]);
-            let code = asked.make(table.as_mut_ptr(), table.len());
+            // A read sets the totals; a refresh is lent those of the rows as they are.
+            let mut totals = Lent::new(match op {
+                Op::Read => FAR,
+                _ => [count as u64, 7 * count as u64],
+            });
+            let code = asked.make(table.as_mut_ptr(), table.len(), &mut totals);
             let row = one(file, layout, 0, 0).expect("a large header at byte 0");
+            let [large, size] = of(&row, 1).map(|share| share * count as u64);
+            totals_are(&totals, [large, size])?;
             rows_are(&table, ROW, |i, given| {
                 given[1] == i as u32 && given[0] == row[0] && given[2..] == row[2..]
             })?;
@@ -155,6 +201,7 @@ fn any(random: &mut Random) -> Compared {
             count: random.pick(&[u32::MAX, u32::MAX - 1, table.case(op, &lent).count]),
             low: random.pick(&far),
             high: random.pick(&far),
+            totals: Some(any_totals(random, &lent, table.count)),
             ..table.case(op, &lent)
         };
         asked.compare()?;

@@ -3,7 +3,7 @@
 
 use bisquepond::sys::*;
 
-use super::{fresh, Layout, Row, FLAGS, INFO_OFFSET, INLINE, LAYOUTS, PLACE, RECORD, ROW};
+use super::{fresh, totals, Layout, Row, FLAGS, INFO_OFFSET, INLINE, LAYOUTS, PLACE, RECORD, ROW};
 use crate::case::{self, bytes_word, printed, replayed, said, table_word};
 use crate::case::{Compare, Difference, Refusal, Words};
 use crate::lent::{copied, guarded, BEHIND, FRONT};
@@ -78,7 +78,7 @@ fn up(place: u128) -> u128 {
 /// Whether all fields fit, the overflow bit is clear and, in modern, info_offset is 0.
 pub fn inline(layout: Layout, row: &[u32]) -> bool {
     let fits = |&(word, bits, _): &Field| u128::from(row[word]) < 1 << bits;
-    let clear = row[FLAGS] / OVERFLOW % 2 == 0;
+    let clear = (row[FLAGS] / OVERFLOW).is_multiple_of(2);
     let info = layout == Layout::Legacy || row[INFO_OFFSET] == 0;
     fields(layout).iter().all(fits) && clear && info
 }
@@ -214,9 +214,13 @@ pub fn read_back(case: &Case, buffer: &[u8]) -> Result<(), String> {
     let rows = placed(case);
     let mut ours = vec![7; rows.len()];
     let (s, len, words) = (buffer.as_ptr(), buffer.len(), ours.len());
+    let (lent, [mut large, mut sizes]) = (ours.as_mut_ptr(), [7; 2]);
     let read = meter::call(|| unsafe {
-        hbc_read_functions(s, len, layout, start, count, ours.as_mut_ptr(), words)
+        hbc_read_functions(s, len, layout, start, count, lent, words, &mut large, &mut sizes)
     });
+    if read == count.into() && [large, sizes] != totals::of(&rows, count) {
+        return Err(format!("totals {large} and {sizes}, where it is read back"));
+    }
     if read != count.into() || ours != rows {
         let wrong = ours.iter().zip(&rows).position(|(a, b)| a != b);
         let word = wrong.map_or(String::new(), |i| {

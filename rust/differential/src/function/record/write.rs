@@ -23,7 +23,7 @@ pub fn answers(layout: usize) -> &'static [u32] {
 }
 
 /// The first of the two groups.
-pub const GROUP: usize = 10;
+pub const GROUP: usize = 12;
 
 fn add(sample: &mut Sample, draft: &Draft) {
     let (case, len) = (draft.case(), draft.buffer.len());

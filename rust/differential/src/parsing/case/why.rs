@@ -9,7 +9,7 @@ use bisquepond::Row as _;
 use super::handlers::{header, listed, FLAGS, FUNCTION, INFO_OFFSET, ROW};
 use crate::case::{bytes_word, code, printed, replayed, said, table_word};
 use crate::case::{Compare, Difference, Refusal, Words};
-use crate::lent::{guarded, Number, BEHIND, FRONT};
+use crate::lent::{guarded, inside, Number};
 use crate::meter;
 
 /// What is answered where handlers are shown, and the reasons.
@@ -115,10 +115,6 @@ pub struct Answer {
     pub code: u64,
     pub handlers: u32,
     given: Option<(Vec<u32>, Vec<u8>)>,
-}
-
-fn inside<T>(guarded: &[T]) -> &[T] {
-    &guarded[FRONT..guarded.len() - BEHIND]
 }
 
 impl Compare for Why<'_> {

@@ -409,7 +409,10 @@ fn read(table: &Table) -> Vec<u32> {
     let mut rows = vec![7; count as usize * FUNCTION];
     let (lent, words) = (rows.as_mut_ptr(), rows.len());
     let (s, len, layout) = (file.as_ptr(), file.len(), table.layout as u32);
-    let code = unsafe { hbc_read_functions(s, len, layout, table.start, count, lent, words) };
+    let (start, [mut large, mut sizes]) = (table.start, [0; 2]);
+    let code = unsafe {
+        hbc_read_functions(s, len, layout, start, count, lent, words, &mut large, &mut sizes)
+    };
     assert_eq!(code, count.into(), "the headers can be read");
     rows
 }

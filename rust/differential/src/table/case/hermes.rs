@@ -7,7 +7,7 @@ use bisquepond::sys::*;
 use super::strings::{Case, ROW};
 use crate::case::{bytes_word, Compare, Difference, Refusal, Words};
 use crate::case::{code, printed, replayed, said, table_word};
-use crate::lent::{guarded, BEHIND, FRONT};
+use crate::lent::{guarded, inside, FRONT};
 use crate::meter;
 
 /// The case of the old mode, read in Hermes mode.
@@ -120,10 +120,6 @@ impl Decoded {
     pub fn rows(&self) -> &[u32] {
         inside(&self.table)
     }
-}
-
-fn inside<T>(guarded: &[T]) -> &[T] {
-    &guarded[FRONT..guarded.len() - BEHIND]
 }
 
 impl Hermes<'_> {

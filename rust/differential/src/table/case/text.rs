@@ -7,7 +7,7 @@ use bisquepond::Row as _;
 use super::strings::{right_bytes, ROW};
 use crate::case::{bytes_word, code, printed, replayed, said, table_word};
 use crate::case::{Compare, Compared, Difference, Refusal, Words};
-use crate::lent::{guarded, BEHIND, FRONT};
+use crate::lent::{guarded, inside, BEHIND, FRONT};
 use crate::meter;
 
 /// The mark of UTF-16.
@@ -175,10 +175,6 @@ impl Answered {
             _ => &[],
         }
     }
-}
-
-fn inside<T>(guarded: &[T]) -> &[T] {
-    &guarded[FRONT..guarded.len() - BEHIND]
 }
 
 impl Compare for Text<'_> {
