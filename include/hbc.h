@@ -206,8 +206,14 @@ uint64_t hbc_read_functions(const uint8_t *file, size_t file_len, uint32_t layou
  * of these, in rising order, both totals lose what the row has in them as it was lent, and then gain what it has as it
  * is now: 1 or 0, and its size. Where none is read again the totals stay, and are not looked at.
  * Refused, no row is written, the totals stay, and the edit is not taken in: a later call with another span would leave
- * its rows out of date. Undo the edit, or let the span of the next call hold this one too. If the length of the file
- * changed, read the table anew.
+ * its rows out of date. Undo the edit before the next call, or let the span of that call hold this one too. If the
+ * length of the file changed, read the table anew.
+ * Two edits may both be in the file, each refreshed over its own span, whatever the two spans are: in either order each
+ * call answers the same, and the table and the totals are the same in the end, if the totals were those of the rows. A
+ * function that meets both spans is counted by both. Rows that were read before both edits are a fresh read's in the end
+ * if both calls are accepted. Of a call that is refused nothing stays, and the other does what it would do alone; but
+ * what it reads it reads with both edits in the file. So if another call was accepted since, an edit that is undone or
+ * put right is refreshed over its own span again; the other's need not be.
  * Refused 12; 1; 2 if `start` is past the end; 10 if `low` is above `high`, or `high` past the end; 4 as above; 3 with
  * the first function whose header is not wholly in the file as place, whether it meets the span or not; then 2 or 3 as
  * above for the first function that meets the span and cannot be read; and after all these reads 16, with the first

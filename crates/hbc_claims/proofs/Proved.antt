@@ -1,5 +1,5 @@
 -- What proves each theorem of specs/Theorems.
-use Prim.Native.Nat.{ℕ, _^_, _≤_, _<_, max}
+use Prim.Native.Nat.{ℕ, _^_, _≤_, _<_, min, max}
 use mathlib.Core.Path.{_≡_, ap, sym, _∙_}
 use mathlib.Core.List.{List}
 use mathlib.Core.Bool.{Bool}
@@ -20,7 +20,7 @@ use Rattle.hbc_rows.specs.Rows.{entryAt}
 use Rattle.hbc_function_record.specs.declared.Layout.{Layout}
 use Rattle.hbc_function_record.specs.declared.Found.{Found}
 use Rattle.hbc_function_record.specs.Row.{ROW_INFO_OFFSET, ROW_FLAGS, rowWords}
-use Rattle.hbc_function_header.specs.Header.{headerAt, functionAt}
+use Rattle.hbc_function_header.specs.Header.{saysReading, headerAt, functionAt}
 use Rattle.hbc_function_header.specs.declared.Reading.{Reading}
 use Rattle.hbc_function_header.specs.declared.Reading.the-variants as reading
 use Rattle.hbc_function.specs.declared.Refreshed.{Refreshed}
@@ -55,11 +55,16 @@ use Rattle.hbc_claims_function.proofs.Refreshed as fresh
 use Rattle.hbc_claims_function.proofs.Tables.{filled, rewritten}
 use Rattle.hbc_claims_function.proofs.Totals as totals
 use Rattle.hbc_claims_function.proofs.Stops as stops
+use Rattle.hbc_claims_function.proofs.Panes as panes
+use Rattle.hbc_claims_function.proofs.Again as again
+use Rattle.hbc_claims_function.proofs.Together as together
 use Rattle.hbc_claims_function.proofs.Unique as u-function
 use Rattle.hbc_claims_function.proofs.Written as written
 use Rattle.hbc_claims_function.proofs.Places as places
 use Rattle.hbc_claims_function.proofs.OneOutput as outputs
+use Rattle.hbc_claims_law.specs.Terms.{Same}
 use Rattle.hbc_claims_function.specs.Written.{Written}
+use Rattle.hbc_claims_function.specs.Panes.{Result, Over}
 use Rattle.hbc_claims_table.proofs.Tables as r-table
 use Rattle.hbc_claims_table.proofs.Strings as r-strings
 use Rattle.hbc_claims_table.proofs.Modes as r-modes
@@ -91,7 +96,7 @@ use Rattle.hbc_claims_debug.proofs.Unique as u-debug
 use Rattle.hbc_claims_c.proofs.Left as r-c
 use Rattle.hbc_claims_c.proofs.Why as c-whys
 use Rattle.hbc_claims_c.proofs.Unique as u-c
-use Rattle.hbc_claims.specs.Theorems.{Unique, Theorems, AsFresh, CountedLeft, CursorLeft, DebugRead, Edited, Exact, ExportedLeft, HandlersRead, Meets, Modes, ObjectRead, Packed, Reader, Reads, Refreshes, SectionsRead, SeriesRead, StringsRead, TableRead, TablesLeft, Texts, Whole, Writes}
+use Rattle.hbc_claims.specs.Theorems.{Unique, Theorems, AsFresh, AsOne, BothFresh, CountedLeft, CursorLeft, DebugRead, Edited, EditedTwice, EitherOrder, Exact, ExportedLeft, HandlersRead, Meets, Modes, ObjectRead, Packed, Panes, Reader, Reads, Refreshes, SectionsRead, SeriesRead, Sound, StringsRead, TableRead, TablesLeft, Texts, Touching, Whole, Writes}
 use Rattle.hbc_claims.proofs.Cases.{hold}
 use Rattle.hbc_claims.proofs.Unique as u-listing
 use Rattle.hbc_claims.proofs.Records as u-records
@@ -136,6 +141,72 @@ as-fresh {layout = layout} {start = start} {count = count} v f g =
 refreshes : {s : List ℕ} {layout : Layout} {start count low high k : ℕ} {t t′ : Table} → RefreshFunctions s layout start count low high t (refreshed.Done k) t′
     → Refreshes s layout start count low high t k t′
 refreshes v = let w = rewritten v in record { rows = w .met; others = w .unmet; behind = w .behind; counts = w .counts }
+
+-- ---- two refreshes of one file
+
+fit : (s : List ℕ) (count : ℕ) (t : Table) → Sound s count t → panes.Fit count t
+fit s count t v = record { true-of = v .totals; sized = λ i h. let x = v .sizes i h in omega arith }
+
+either-order : (s : List ℕ) (layout : Layout) (start count low₁ high₁ low₂ high₂ : ℕ) (t : Table) (a ab b ba : Result) → Sound s count t
+    → Panes s layout start count low₁ high₁ low₂ high₂ t a ab b ba → EitherOrder s count a ab b ba
+either-order s layout start count low₁ high₁ low₂ high₂ t a ab b ba w v =
+    let f = fit s count t w in let y = w .bytes in
+    let p = v .first in let q = v .second-after in let g = v .second in let h = v .first-after in
+    record {
+      first-told = panes.one-says s y layout start count t f low₂ high₂ low₁ high₁ b ba a g h p;
+      second-told = panes.one-says s y layout start count t f low₁ high₁ low₂ high₂ a ab b p q g;
+      same = panes.tables-same s y layout start count t f low₁ high₁ low₂ high₂ a ab b ba p q g h;
+      sound = let z = panes.after s y layout start count low₂ high₂ (ab .answer) (a .table) (ab .table) q
+          (panes.after s y layout start count low₁ high₁ (a .answer) t (a .table) p f) in
+          record { totals = z .true-of; bytes = y; sizes = λ i l. let x = z .sized i l in omega arith };
+      first-refused = λ x e. (
+        panes.other-stands s y layout start count t f low₁ high₁ low₂ high₂ a ab b x p q g e,
+        panes.refused-after s y layout start count t f low₂ high₂ low₁ high₁ b ba a x g h p e,
+      );
+      second-refused = λ x e. (
+        panes.refused-after s y layout start count t f low₁ high₁ low₂ high₂ a ab b x p q g e,
+        panes.other-stands s y layout start count t f low₂ high₂ low₁ high₁ b ba a x g h p e,
+      );
+    }
+
+as-one : (s : List ℕ) (layout : Layout) (start count low₁ high₁ low₂ high₂ : ℕ) (t : Table) (a ab b ba c : Result) → Sound s count t
+    → Panes s layout start count low₁ high₁ low₂ high₂ t a ab b ba → Touching low₁ high₁ low₂ high₂
+    → Over s layout start count (min low₁ low₂) (max high₁ high₂) t c → AsOne s layout start count low₁ high₁ low₂ high₂ t a ab b c
+as-one s layout start count low₁ high₁ low₂ high₂ t a ab b ba c w v u o =
+    let f = fit s count t w in
+    let one = together.as-one s (w .bytes) layout start count t f low₁ high₁ low₂ high₂ a b (v .first) (v .second) (u .rise .0) (u .rise .1) (u .touch .0) (u .touch .1) c o ab in
+    record {
+      answers = together.says-one s (w .bytes) layout start count t f low₁ high₁ low₂ high₂ a b (v .first) (v .second) (u .rise .0) (u .rise .1) (u .touch .0) (u .touch .1) c o;
+      table = λ j e. one j (v .second-after) e .1;
+      counts = λ j e. one j (v .second-after) e .0;
+      refused = λ x e. panes.told s layout start count (min low₁ low₂) (max high₁ high₂) t c o e .leaves;
+    }
+
+both-fresh : (o s : List ℕ) (layout : Layout) (start count low₁ high₁ low₂ high₂ : ℕ) (t₀ t₁ t t₂ : Table) (a ab b ba : Result) (r : Reading) → Sound s count t
+    → EditedTwice o s layout start count low₁ high₁ low₂ high₂ t₀ t₁ t → Panes s layout start count low₁ high₁ low₂ high₂ t a ab b ba
+    → ReadFunctions s layout start count t₀ r t₂ → BothFresh r t₂ a ab b ba
+both-fresh o s layout start count low₁ high₁ low₂ high₂ t₀ t₁ t t₂ a ab b ba r w u v g =
+    let f = fit s count t w in
+    let e = either-order s layout start count low₁ high₁ low₂ high₂ t a ab b ba w v in
+    let last = together.both-fresh (u .same) (w .bytes) layout start count (u .read) (u .rows) f a b (v .first) (v .second) (u .first .0) (u .first .1) (u .second .0)
+    (u .second .1) r t₂ g ab (v .second-after) in
+    record {
+      answers = together.says-fresh (u .same) (w .bytes) layout start count (u .read) (u .rows) f a b (v .first) (v .second) (u .first .0) (u .first .1) (u .second .0)
+          (u .second .1) r t₂ g;
+      table = λ h. (last h, sym (e .same) ∙ last h);
+    }
+
+mended : (o s s′ : List ℕ) (layout : Layout) (start count low₁ high₁ low₂ high₂ k : ℕ) (t₀ t₁ t t₂ t₃ u : Table) (r : Reading) (q : Refreshed) → Sound s count t
+    → EditedTwice o s layout start count low₁ high₁ low₂ high₂ t₀ t₁ t → RefreshFunctions s layout start count low₂ high₂ t (refreshed.Done k) u → Same s s′ low₁ high₁
+    → ((i : ℕ) → getD s′ i 0 < 256) → ReadFunctions s′ layout start count t₀ r t₂ → RefreshFunctions s′ layout start count low₁ high₁ u q t₃ → AsFresh r q u t₂ t₃
+mended o s s′ layout start count low₁ high₁ low₂ high₂ k t₀ t₁ t t₂ t₃ u r q w v p m y f g =
+    let ends : high₁ ≤ length s′ = rw (← m .long) (v .first .1) in
+    record {
+      answers = together.mended-answers (v .same) m layout start count k (v .read) (v .rows) p (w .bytes) y (fit s count t w) (v .first .0) ends f g;
+      accepted = together.mended-table (v .same) m layout start count k (v .read) (v .rows) p (w .bytes) y (fit s count t w) (v .first .0) ends f g;
+      refused = λ x e. panes.left-when s′ layout start count low₁ high₁ q u t₃ x g
+          (sym (together.mended-answers (v .same) m layout start count k (v .read) (v .rows) p (w .bytes) y (fit s count t w) (v .first .0) ends f g) ∙ ap saysReading e);
+    }
 
 met : (s : List ℕ) (layout : Layout) (start low high i : ℕ) → Meets s layout start low high i (headerAt layout start i)
 met s layout start low high i = record {
@@ -379,4 +450,17 @@ theorems = record {
   totals-passed = stops.totals-passed;
   totals-fit = stops.totals-fit;
   totals-stopped = stops.totals-stopped;
+  either-order = either-order;
+  twice = λ s layout start count low high t a aa w p q. again.twice s layout start count low high t w a aa p q;
+  any-order = panes.accepted-either;
+  any-twice = panes.accepted-twice;
+  both-written = λ s layout start count low₁ high₁ low₂ high₂ k m t t₁ t′ p q. record {
+    rows = together.both-met s layout start count low₁ high₁ low₂ high₂ k m t t₁ t′ p q;
+    others = together.both-unmet s layout start count low₁ high₁ low₂ high₂ k m t t₁ t′ p q;
+    behind = together.both-behind s layout start count low₁ high₁ low₂ high₂ k m t t₁ t′ p q;
+  };
+  counts-shared = panes.counts-of;
+  as-one = as-one;
+  both-fresh = both-fresh;
+  mended = mended;
 }

@@ -1,6 +1,6 @@
 -- docs/FORMAT.md, section 10.1: the worked cases that are proved, P1 to P10, W1 to W5, of which Wn is Pn the other way round, H1 and H2, on which
--- the modes of decoding strings differ, T1 to T8, texts, Y1 to Y8, why a function has no handlers, and S1 to S7, the totals beside a table, in one list
--- under one statement. A case is any statement over the promises' definitions.
+-- the modes of decoding strings differ, T1 to T8, texts, Y1 to Y8, why a function has no handlers, S1 to S7, the totals beside a table, and R1 to R9, two
+-- refreshes in either order, in one list under one statement. A case is any statement over the promises' definitions.
 use Prim.Native.Nat.{ℕ, zero, suc, _+_, _-_, _*_, _^_, _≤_}
 use mathlib.Core.Path.{_≡_}
 use mathlib.Core.List.{List, [], _∷_, _++_}
@@ -166,6 +166,59 @@ Refreshes = RefreshesIn Legacy16 2
 abbrev pub twoWith : ℕ → ℕ → functions.Table
 twoWith large sizes = functions.lent (rowsRead Legacy16 legacyTwo 2) large sizes
 
+-- an inline header of a function of this size, legacy (P1's but for that) and modern (P2's)
+abbrev pub legacySized : ℕ → List ℕ
+legacySized size = 0 ∷ 1 ∷ 0 ∷ 4 ∷ size ∷ 128 ∷ 1 ∷ 0 ∷ 0 ∷ 0 ∷ 0 ∷ 10 ∷ 1 ∷ 2 ∷ 3 ∷ 4 ∷ []
+
+abbrev pub modernSized : ℕ → List ℕ
+modernSized size = 0 ∷ 1 ∷ 0 ∷ 68 ∷ size ∷ 192 ∷ 0 ∷ 41 ∷ 6 ∷ 7 ∷ 72 ∷ 4 ∷ []
+
+-- two functions, the first of one size, the second of another in a large header far behind the table, at byte 300
+abbrev pub legacyFar : ℕ → ℕ → List ℕ
+legacyFar own far = legacySized own ++ 44 ∷ 1 ∷ replicate 13 0 ++ 32 ∷ replicate 276 0 ++ far ∷ replicate 22 0
+
+abbrev pub modernFar : ℕ → ℕ → List ℕ
+modernFar own far = modernSized own ++ 44 ∷ 1 ∷ replicate 9 0 ++ 32 ∷ replicate 288 0 ++ far ∷ replicate 24 0
+
+-- the legacy one of sizes 12 and 21, but for a first header that is flagged and names a place past the end
+abbrev pub legacyLost : List ℕ
+legacyLost = 0 ∷ 255 ∷ replicate 13 0 ++ 32 ∷ 44 ∷ 1 ∷ replicate 13 0 ++ 32 ∷ replicate 276 0 ++ 21 ∷ replicate 22 0
+
+-- a table of the two that is read from such a file, with these totals
+abbrev pub legacyTable : ℕ → ℕ → ℕ → ℕ → functions.Table
+legacyTable own far large sizes = functions.lent (rowsRead Legacy16 (legacyFar own far) 2) large sizes
+
+abbrev pub modernTable : ℕ → ℕ → ℕ → ℕ → functions.Table
+modernTable own far large sizes = functions.lent (rowsRead Modern12 (modernFar own far) 2) large sizes
+
+-- and one of two inline functions, of sizes 10 and 20
+abbrev pub legacyNear : functions.Table
+legacyNear = functions.lent (rowsRead Legacy16 (legacySized 10 ++ legacySized 20) 2) 0 30
+
+abbrev pub modernNear : functions.Table
+modernNear = functions.lent (rowsRead Modern12 (modernSized 10 ++ modernSized 20) 2) 0 30
+
+-- what a refresh leaves of a table, and what one after another answers and leaves
+abbrev pub leftOf : Layout → List ℕ → ℕ → ℕ → functions.Table → functions.Table
+leftOf layout s low high t = written (refreshAnswer s layout 0 2 low high t) (refreshedBy s layout 0 2 low high t) t
+
+abbrev pub InTurn : Layout → List ℕ → ℕ → ℕ → ℕ → ℕ → functions.Table → Answer ℕ → Answer ℕ → functions.Table → Type 0
+InTurn layout s low₁ high₁ low₂ high₂ t first second after =
+    (refreshAnswer s layout 0 2 low₁ high₁ t ≡ first) × (refreshAnswer s layout 0 2 low₂ high₂ (leftOf layout s low₁ high₁ t) ≡ second)
+    × (leftOf layout s low₂ high₂ (leftOf layout s low₁ high₁ t) ≡ after)
+
+-- the same in the other order
+abbrev pub InEither : Layout → List ℕ → ℕ → ℕ → ℕ → ℕ → functions.Table → Answer ℕ → Answer ℕ → functions.Table → Type 0
+InEither layout s low₁ high₁ low₂ high₂ t first second after =
+    InTurn layout s low₁ high₁ low₂ high₂ t first second after × InTurn layout s low₂ high₂ low₁ high₁ t second first after
+
+-- of a table read from sizes 10 and 20, with true totals, and a file with 12 and 21
+abbrev pub InLegacy : ℕ → ℕ → ℕ → ℕ → Answer ℕ → Answer ℕ → functions.Table → Type 0
+InLegacy low₁ high₁ low₂ high₂ = InEither Legacy16 (legacyFar 12 21) low₁ high₁ low₂ high₂ (legacyTable 10 20 1 30)
+
+abbrev pub InModern : ℕ → ℕ → ℕ → ℕ → Answer ℕ → Answer ℕ → functions.Table → Type 0
+InModern low₁ high₁ low₂ high₂ = InEither Modern12 (modernFar 12 21) low₁ high₁ low₂ high₂ (modernTable 10 20 1 30)
+
 abbrev pub cases : List {1} (Type 0)
 cases =
     -- P1
@@ -304,4 +357,26 @@ cases =
     ∷ Refreshes legacyTwo 0 16 (twoWith (2 ^ 63) 30) (refusedAt 16 0) (2 ^ 63) 30
     ∷ Refreshes (take 62 legacyTwo) 0 32 (twoWith 0 0) (refusedAt 3 1) 0 0
     ∷ RefreshesIn Modern12 3 modernThree 72 73 (functions.lent (rowsRead Modern12 modernThree 3) 1 320) (gives 1) 1 320
+    -- R1: spans that overlap in the far large header: one function is counted by both; by one refresh over both it is counted once
+    ∷ InLegacy 304 309 308 316 (gives 1) (gives 1) (legacyTable 10 21 1 31)
+    ∷ (refreshAnswer (legacyFar 12 21) Legacy16 0 2 304 316 (legacyTable 10 20 1 30) ≡ gives 1)
+    -- R2: two that touch within it, the first from the table on; R3: one within the other; R4: one twice; R5: an empty one
+    ∷ InLegacy 0 308 308 331 (gives 2) (gives 1) (legacyTable 12 21 1 33)
+    ∷ InLegacy 0 331 308 309 (gives 2) (gives 1) (legacyTable 12 21 1 33)
+    ∷ InLegacy 308 309 308 309 (gives 1) (gives 1) (legacyTable 10 21 1 31)
+    ∷ InLegacy 308 308 308 309 (gives 0) (gives 1) (legacyTable 10 21 1 31)
+    -- R6: one is refused, before the other or after it, and the other stands; both are
+    ∷ InEither Legacy16 legacyLost 0 16 308 309 (legacyTable 10 20 1 30) (refusedAt 2 0) (gives 1) (legacyTable 10 21 1 31)
+    ∷ InEither Legacy16 legacyLost 0 16 309 308 (legacyTable 10 20 1 30) (refusedAt 2 0) (refusedAt 10 0) (legacyTable 10 20 1 30)
+    -- R7: with totals that are not true the order may decide: 20 cannot be taken out of 10, but can be out of 25
+    ∷ InTurn Legacy16 (legacyFar 25 21) 0 16 308 309 (legacyTable 10 20 1 10) (gives 1) (gives 1) (legacyTable 25 21 1 26)
+    ∷ InTurn Legacy16 (legacyFar 25 21) 308 309 0 16 (legacyTable 10 20 1 10) (refusedAt 16 1) (gives 1) (legacyTable 25 20 1 25)
+    -- and one that was accepted may be refused when it is done again
+    ∷ InTurn Legacy16 (legacyFar 25 1) 0 331 0 331 (legacyTable 10 20 1 10) (gives 2) (refusedAt 16 0) (legacyTable 25 1 1 6)
+    -- R8: R1 and R2 of a modern table
+    ∷ InModern 304 313 312 320 (gives 1) (gives 1) (modernTable 10 21 1 31)
+    ∷ InModern 0 312 312 337 (gives 2) (gives 1) (modernTable 12 21 1 33)
+    -- R9: one pane has made the second function large, the other has changed its large header: that is counted before its row says so, and after
+    ∷ InEither Legacy16 (legacyFar 12 21) 16 32 308 309 legacyNear (gives 1) (gives 1) (legacyTable 10 21 1 31)
+    ∷ InEither Modern12 (modernFar 12 21) 12 24 312 313 modernNear (gives 1) (gives 1) (modernTable 10 21 1 31)
     ∷ []

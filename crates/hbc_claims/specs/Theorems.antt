@@ -1,8 +1,8 @@
--- docs/FORMAT.md, section 1.6, each part naming its own: every theorem on calls in full: the words in thirteen sections, and at the end the theorems
+-- docs/FORMAT.md, section 1.6, each part naming its own: every theorem on calls in full: the words in fourteen sections, and at the end the theorems
 -- themselves, in one record, under the names in brackets; proofs/Proved proves them. The promises that they speak of (`ReadFunctions`, ..) are what the
 -- calls' contracts cite (docs/PROMISES.md), the terms are those of hbc_claims_law/specs/Terms. n is a cursor as a call leaves it, t′ a table. A
 -- `Table` of functions has the words of its rows, and beside them two totals.
-use Prim.Native.Nat.{ℕ, suc, _+_, _*_, _%_, _^_, _≤_, _<_}
+use Prim.Native.Nat.{ℕ, suc, _+_, _*_, _%_, _^_, _≤_, _<_, min, max}
 use mathlib.Core.Path.{_≡_}
 use mathlib.Core.List.{List, [], _∷_, _++_}
 use mathlib.Core.Bool.{Bool, true, false, cond}
@@ -126,7 +126,8 @@ use Rattle.hbc_claims_function.specs.Packed as packed
 use Rattle.hbc_claims_function.specs.BitLayout.{Covers, Named}
 use Rattle.hbc_claims_function.specs.Unique as u-function
 use Rattle.hbc_claims_function.specs.Places.{Tells}
-use Rattle.hbc_claims_function.specs.Totals.{True, Moved as TotalsMoved, Stopped, Passed}
+use Rattle.hbc_claims_function.specs.Totals.{sizeWord, True, Moved as TotalsMoved, Stopped, Passed}
+use Rattle.hbc_claims_function.specs.Panes.{Result, Over, OfBoth, SameBut, either, both}
 use Rattle.hbc_claims_function.specs.Written.{Words, Written, ReadsBack, SameRecords, Headed, Kept, Placed}
 use Rattle.hbc_claims_table.specs.Unique as u-table
 use Rattle.hbc_claims_table.specs.Within.{Within}
@@ -153,8 +154,8 @@ use Rattle.hbc_claims.specs.Cases.{cases}
 use Rattle.hbc_claims.specs.Unique as u-listing
 use Rattle.hbc_claims.specs.Records as u-records
 
--- ==== 1. The worked cases: P1 to P10, W1 to W5, H1 and H2, T1 to T8, Y1 to Y8, S1 to S7 of docs/FORMAT.md, section 10, each stated in Cases, one list
--- (`worked`)
+-- ==== 1. The worked cases: P1 to P10, W1 to W5, H1 and H2, T1 to T8, Y1 to Y8, S1 to S7, R1 to R9 of docs/FORMAT.md, section 10, each stated in Cases,
+-- one list (`worked`)
 -- ==== 2. Uniqueness (`unique`) of every public call, by layers, and of every exported one: two outcomes that both meet its contract, as the checker has it,
 -- are equal: the answer, and every word or number that was lent to it; each by the one law of hbc_claims_law, what equals one thing is one thing
 pub record Unique : Type 0 where
@@ -548,6 +549,86 @@ pub record Texts : Type 0 where
 -- read. Of the functions before i alone the refresh is accepted, so that i is the first; and with the totals that it leaves, row i cannot be exchanged for
 -- function i of the file: a total is less than that row adds to it, or, that taken out and the function's added, above 2^63 - 1 (`Fails`)
 
+-- ==== 14. Two refreshes of one file (docs/FORMAT.md, section 3.11): two panes have changed bytes of it, and each has the table refreshed over its own span
+-- given: the results of two refreshes of one file, which has both edits, in both orders, each by the call's own promise (`Over`). a is the first pane's, of the
+-- table t, and ab then the second's, of what a left; b is the second's, of t, and ba then the first's. The spans may be any: apart, touching, overlapping, one
+-- within the other, equal, empty, and such as are refused 10
+pub record Panes (s : List ℕ) (layout : Layout) (start count low₁ high₁ low₂ high₂ : ℕ) (t : Table) (a ab b ba : Result) : Type 0 where
+  pub first : Over s layout start count low₁ high₁ t a
+  pub second-after : Over s layout start count low₂ high₂ (a .table) ab
+  pub second : Over s layout start count low₂ high₂ t b
+  pub first-after : Over s layout start count low₁ high₁ (b .table) ba
+
+-- and that the totals of t are true of its rows, whoever wrote them; bytes are bytes, and sizes words
+pub record Sound (s : List ℕ) (count : ℕ) (t : Table) : Type 0 where
+  pub totals : True t count
+  pub bytes : (i : ℕ) → getD s i 0 < 256
+  pub sizes : (i : ℕ) → i < count → sizeWord (t .rows) i < 2 ^ 32
+
+-- then (`either-order`):
+pub record EitherOrder (s : List ℕ) (count : ℕ) (a ab b ba : Result) : Type 0 where
+  -- a pane is told the same whether its refresh comes before the other's or after it: how many functions were read again, or the refusal, number and place
+  pub first-told : ba .answer ≡ a .answer
+  pub second-told : ab .answer ≡ b .answer
+  -- the table is the same in the end, every word and both totals; these are true of it, and what was given of t holds of it: more refreshes may follow
+  pub same : ab .table ≡ ba .table
+  pub sound : Sound s count (ab .table)
+  -- if the first pane's is refused, only the second's effect stands, before or after it: what the second's alone leaves; and the other way round
+  pub first-refused : (x : Refusal) → a .answer ≡ refreshed.Refused x → (ab .table ≡ b .table) × (ba .table ≡ b .table)
+  pub second-refused : (x : Refusal) → b .answer ≡ refreshed.Refused x → (ab .table ≡ a .table) × (ba .table ≡ a .table)
+
+-- where the totals are true, one done twice is done once: the second time the same answer, with the same number, and the same table (`twice`)
+-- of any table and any totals, true or not: refreshes that are all accepted report the same, first or second, and leave the same table (`any-order`); and so
+-- does one that is accepted twice (`any-twice`). With totals that are not true the order may decide whether one is refused 16, and one that was accepted may
+-- be refused 16 when it is done again (R7 of the worked cases)
+-- accepted, one and then the other, of any table and totals, make t into t′ so (`both-written`):
+pub record BothWritten (s : List ℕ) (layout : Layout) (start count low₁ high₁ low₂ high₂ : ℕ) (t t′ : Table) : Type 0 where
+  -- the row of each function that meets one span or the other is the file's
+  pub rows : (i c : ℕ) → i < count → either (meets s layout start low₁ high₁) (meets s layout start low₂ high₂) i ≡ true → c < width
+      → RowWord s layout start i c (getD (t′ .rows) (i * width + c) 0)
+  -- no other word is touched, and the table is as long as before
+  pub others : (i c : ℕ) → either (meets s layout start low₁ high₁) (meets s layout start low₂ high₂) i ≡ false → c < width
+      → getD (t′ .rows) (i * width + c) 0 ≡ getD (t .rows) (i * width + c) 0
+  pub behind : Behind (count * width) (t .rows) (t′ .rows)
+
+-- what is not so: that the two counts together are the count of the functions that meet one span or the other. A function that meets both is counted by
+-- both: the sum is more, by as many as meet both (`counts-shared`)
+
+-- two spans, neither of them reversed, that touch or overlap
+pub record Touching (low₁ high₁ low₂ high₂ : ℕ) : Type 0 where
+  pub rise : (low₁ ≤ high₁) × (low₂ ≤ high₂)
+  pub touch : (low₁ ≤ high₂) × (low₂ ≤ high₁)
+
+-- then of one refresh c over both, from the first byte of them to the last (`as-one`):
+pub record AsOne (s : List ℕ) (layout : Layout) (start count low₁ high₁ low₂ high₂ : ℕ) (t : Table) (a ab b c : Result) : Type 0 where
+  -- it is accepted exactly when both are, and is else refused as one of them is, and neither at a lower place
+  pub answers : OfBoth (saysRefreshed (a .answer)) (saysRefreshed (b .answer)) (saysRefreshed (c .answer))
+  -- accepted, it leaves the table that the two leave, and reports how many functions meet one span or the other
+  pub table : (j : ℕ) → c .answer ≡ refreshed.Done j → c .table ≡ ab .table
+  pub counts : (j : ℕ) → c .answer ≡ refreshed.Done j → j ≡ countOf (either (meets s layout start low₁ high₁) (meets s layout start low₂ high₂)) count
+  -- refused, it leaves the table as it was, also where one of the two alone would have had its effect
+  pub refused : (x : Refusal) → c .answer ≡ refreshed.Refused x → c .table ≡ t
+
+-- given, as in section 3: t₀ became t₁ by an accepted read of an older file o, and t has its rows; the file s, with both edits, is as long as o and the same
+-- outside the two spans, each of which is in the file
+pub record EditedTwice (o s : List ℕ) (layout : Layout) (start count low₁ high₁ low₂ high₂ : ℕ) (t₀ t₁ t : Table) : Type 0 where
+  pub same : SameBut o s low₁ high₁ low₂ high₂
+  pub first : (low₁ ≤ high₁) × (high₁ ≤ length s)
+  pub second : (low₂ ≤ high₂) × (high₂ ≤ length s)
+  pub read : ReadFunctions o layout start count t₀ reading.Read t₁
+  pub rows : t .rows ≡ t₁ .rows
+
+-- then (`both-fresh`), r and t₂ being a fresh read's of s into t₀:
+pub record BothFresh (r : Reading) (t₂ : Table) (a ab b ba : Result) : Type 0 where
+  -- the fresh read is accepted exactly when both refreshes are, and is else refused as one of them is, and neither at a lower place
+  pub answers : OfBoth (saysRefreshed (a .answer)) (saysRefreshed (b .answer)) (saysReading r)
+  -- and accepted, both in either order leave its table, every word and both totals
+  pub table : r ≡ reading.Read → (ab .table ≡ t₂) × (ba .table ≡ t₂)
+
+-- and if the first pane's was refused, or is not yet done: the second's is accepted, and makes t into u; then the first pane changes bytes of its span again,
+-- or puts them back, so that s′ is as long as s and the same outside that span, and has its span refreshed with s′. That is as a fresh read of s′ is, in
+-- answer and table (`mended`; `AsFresh` of section 3)
+
 -- ==== The theorems
 pub record Theorems : Type 2 where
   pub worked : All cases
@@ -626,3 +707,31 @@ pub record Theorems : Type 2 where
       → True t count → RefreshFunctions s layout start count low high t (refreshed.Refused x) t′ → x .number ≡ 16 → ⊥
   pub totals-stopped : (s : List ℕ) (layout : Layout) (start count low high : ℕ) (t t′ : Table) (x : Refusal)
       → RefreshFunctions s layout start count low high t (refreshed.Refused x) t′ → x .number ≡ 16 → Stopped s layout start count low high t (x .place)
+  pub either-order : (s : List ℕ) (layout : Layout) (start count low₁ high₁ low₂ high₂ : ℕ) (t : Table) (a ab b ba : Result) → Sound s count t
+      → Panes s layout start count low₁ high₁ low₂ high₂ t a ab b ba → EitherOrder s count a ab b ba
+  pub twice : (s : List ℕ) (layout : Layout) (start count low high : ℕ) (t : Table) (a aa : Result) → True t count → Over s layout start count low high t a
+      → Over s layout start count low high (a .table) aa → aa ≡ a
+  pub any-order : (s : List ℕ) (layout : Layout) (start count low₁ high₁ low₂ high₂ k m m′ k′ : ℕ) (t t₁ t₁₂ t₂ t₂₁ : Table)
+      → RefreshFunctions s layout start count low₁ high₁ t (refreshed.Done k) t₁ → RefreshFunctions s layout start count low₂ high₂ t₁ (refreshed.Done m) t₁₂
+      → RefreshFunctions s layout start count low₂ high₂ t (refreshed.Done m′) t₂ → RefreshFunctions s layout start count low₁ high₁ t₂ (refreshed.Done k′) t₂₁
+      → (k′ ≡ k) × (m ≡ m′) × (t₁₂ ≡ t₂₁)
+  pub any-twice : (s : List ℕ) (layout : Layout) (start count low high k m : ℕ) (t t₁ t₂ : Table)
+      → RefreshFunctions s layout start count low high t (refreshed.Done k) t₁ → RefreshFunctions s layout start count low high t₁ (refreshed.Done m) t₂
+      → (m ≡ k) × (t₂ ≡ t₁)
+  pub both-written : (s : List ℕ) (layout : Layout) (start count low₁ high₁ low₂ high₂ k m : ℕ) (t t₁ t′ : Table)
+      → RefreshFunctions s layout start count low₁ high₁ t (refreshed.Done k) t₁ → RefreshFunctions s layout start count low₂ high₂ t₁ (refreshed.Done m) t′
+      → BothWritten s layout start count low₁ high₁ low₂ high₂ t t′
+  pub counts-shared : (s : List ℕ) (layout : Layout) (start count low₁ high₁ low₂ high₂ k m : ℕ) (t t′ u u′ : Table)
+      → RefreshFunctions s layout start count low₁ high₁ t (refreshed.Done k) t′ → RefreshFunctions s layout start count low₂ high₂ u (refreshed.Done m) u′
+      → k + m ≡ countOf (either (meets s layout start low₁ high₁) (meets s layout start low₂ high₂)) count
+      + countOf (both (meets s layout start low₁ high₁) (meets s layout start low₂ high₂)) count
+  pub as-one : (s : List ℕ) (layout : Layout) (start count low₁ high₁ low₂ high₂ : ℕ) (t : Table) (a ab b ba c : Result) → Sound s count t
+      → Panes s layout start count low₁ high₁ low₂ high₂ t a ab b ba → Touching low₁ high₁ low₂ high₂
+      → Over s layout start count (min low₁ low₂) (max high₁ high₂) t c → AsOne s layout start count low₁ high₁ low₂ high₂ t a ab b c
+  pub both-fresh : (o s : List ℕ) (layout : Layout) (start count low₁ high₁ low₂ high₂ : ℕ) (t₀ t₁ t t₂ : Table) (a ab b ba : Result) (r : Reading)
+      → Sound s count t → EditedTwice o s layout start count low₁ high₁ low₂ high₂ t₀ t₁ t → Panes s layout start count low₁ high₁ low₂ high₂ t a ab b ba
+      → ReadFunctions s layout start count t₀ r t₂ → BothFresh r t₂ a ab b ba
+  pub mended : (o s s′ : List ℕ) (layout : Layout) (start count low₁ high₁ low₂ high₂ k : ℕ) (t₀ t₁ t t₂ t₃ u : Table) (r : Reading) (q : Refreshed)
+      → Sound s count t → EditedTwice o s layout start count low₁ high₁ low₂ high₂ t₀ t₁ t
+      → RefreshFunctions s layout start count low₂ high₂ t (refreshed.Done k) u → Same s s′ low₁ high₁ → ((i : ℕ) → getD s′ i 0 < 256)
+      → ReadFunctions s′ layout start count t₀ r t₂ → RefreshFunctions s′ layout start count low₁ high₁ u q t₃ → AsFresh r q u t₂ t₃

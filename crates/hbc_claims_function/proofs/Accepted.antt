@@ -20,7 +20,7 @@ use Rattle.hbc_function_write.specs.Write.{rightEnd, writeAnswer}
 use Rattle.hbc_function_write.proofs.Plans.{through, all-checked}
 use Rattle.hbc_claims_function.specs.Accepted.{Accepted, Refreshable, Writable}
 
-un-asked : {A : Type 0} (a : Answer A) → asked a ≡ gives tt → (v : A) × (a ≡ gives v)
+pub un-asked : {A : Type 0} (a : Answer A) → asked a ≡ gives tt → (v : A) × (a ≡ gives v)
 un-asked (gives v) e = (v, refl)
 un-asked (refuses x) e = absurd (not-given e)
 

@@ -2,7 +2,7 @@
 use Prim.Native.Nat.{ℕ, zero, suc, _+_, _*_, _≤_}
 use mathlib.Core.Path.{_≡_, refl, sym, _∙_}
 use mathlib.Core.List.{List, [], _∷_}
-use mathlib.Core.Bool.{true, false}
+use mathlib.Core.Bool.{false}
 use native.Mathlib.Omega.{arith}
 use lib.ListN.{getD, take, drop}
 use lib.Seq.{take-nil}
@@ -11,14 +11,19 @@ use Rattle.hbc_function_header.specs.Meets.{overlap}
 use Rattle.hbc_function_header.proofs.Meetings.{shares}
 use Rattle.hbc_claims_law.specs.Terms.{Same}
 use Rattle.hbc_claims_function.specs.Agree.{Agree}
+use Rattle.hbc_claims_function.specs.Panes.{SameBut}
+use Rattle.hbc_claims_function.proofs.Truths.{never}
 
-pub never : true ≡ false → ⊥
-never e = let z : _≡_ {A = ℕ} 0 1 = cc in omega arith
+-- what does not meet the two spans is the same in both
+pub agrees : {a b : List ℕ} {low₁ high₁ low₂ high₂ : ℕ} → SameBut a b low₁ high₁ low₂ high₂ → (x n : ℕ) → overlap x n low₁ high₁ ≡ false
+    → overlap x n low₂ high₂ ≡ false → Agree a b x (x + n)
+agrees {low₁ = low₁} {high₁ = high₁} {low₂ = low₂} {high₂ = high₂} v x n o u = record {
+  at = λ j h k. v .out j (λ p q. never (shares x n low₁ high₁ (omega arith) ∙ o)) (λ p q. never (shares x n low₂ high₂ (omega arith) ∙ u));
+}
 
--- what does not meet the span is the same in both
-pub agrees : {a b : List ℕ} {low high : ℕ} → Same a b low high → (x n : ℕ) → overlap x n low high ≡ false → Agree a b x (x + n)
-agrees {a} {b} {low} {high} v x n o =
-    record { at = λ j h k. v .out j (λ p q. never (shares x n low high (omega arith) ∙ o)) }
+-- one span, taken twice
+pub but-one : {a b : List ℕ} {low high : ℕ} → Same a b low high → SameBut a b low high low high
+but-one v = record { long = v .long; out = λ j p q. v .out j p }
 
 byte-more : (s : List ℕ) (x n : ℕ) → littleEndian (take (suc n) (drop x s)) ≡ getD s x 0 + 256 * littleEndian (take n (drop (suc x) s))
 byte-more [] zero n = sym (rw take-nil)

@@ -28,7 +28,9 @@ use Rattle.hbc_function_header.specs.Header.{headerAt, groundBy, groundOf, grou
 use Rattle.hbc_function_header.specs.Meets.{overlap, groundMeets, meets}
 use Rattle.hbc_claims_law.specs.Terms.{Same}
 use Rattle.hbc_claims_function.specs.Agree.{Agree}
-use Rattle.hbc_claims_function.proofs.Agree.{agrees, same-num}
+use Rattle.hbc_claims_function.specs.Panes.{SameBut}
+use Rattle.hbc_claims_function.proofs.Truths.{or-left, or-right}
+use Rattle.hbc_claims_function.proofs.Agree.{agrees, but-one, same-num}
 
 module _ (a b : List ℕ) (at i : ℕ) where
   legacy-large : Agree a b at (at + largeOf lay.Legacy16) → legacyLarge a at i ≡ legacyLarge b at i
@@ -72,20 +74,17 @@ unfolding largeAt
 large-same a b lay.Legacy16 at i v = ap rec.Legacy (legacy-large a b at i v)
 large-same a b lay.Modern12 at i v = ap rec.Modern (modern-large a b at i v)
 
--- what a choice that came out false says
-or-left : (p q : Bool) → cond p true q ≡ false → p ≡ false
-or-left false q e = refl
-or-left true q e = e
+-- ---- two files that agree on all that a function is read from
 
-or-right : (p q : Bool) → cond p true q ≡ false → q ≡ false
-or-right false q e = e
-or-right true q e = let z : q ≡ false = cc in z
+-- on its own header, and on a large header that it is flagged for
+abbrev pub OnGround : List ℕ → List ℕ → Layout → Ground → Type 0
+OnGround a b layout ground.None = Unit {0}
+OnGround a b layout (ground.Inline at) = Agree a b at (at + sizeOf layout)
+OnGround a b layout (ground.Large at place) = Agree a b at (at + sizeOf layout) × Agree a b place (place + largeOf layout)
 
--- its own header is apart from the span, whether it is flagged or not
-own-apart : (n m low high at : ℕ) (l : Link) → groundMeets n m low high (groundBy at l) ≡ false → overlap at n low high ≡ false
-unfolding groundMeets
-own-apart n m low high at link.Own o = o
-own-apart n m low high at (link.Large place) o = or-left (overlap at n low high) (overlap place m low high) o
+own-agrees : (a b : List ℕ) (layout : Layout) (at : ℕ) (l : Link) → OnGround a b layout (groundBy at l) → Agree a b at (at + sizeOf layout)
+own-agrees a b layout at link.Own v = v
+own-agrees a b layout at (link.Large place) v = v .0
 
 where-same : (a b : List ℕ) (m : ℕ) (g : Ground) → length a ≡ length b → whereOf a m g ≡ whereOf b m g
 unfolding whereOf below
@@ -93,42 +92,84 @@ where-same a b m ground.None e = refl
 where-same a b m (ground.Inline at) e = refl
 where-same a b m (ground.Large at place) e = rw e
 
--- what is found is the same in both files, where the header's own number is and a large header that it is flagged for does not meet the span
-module _ {a b : List ℕ} {low high : ℕ} (v : Same a b low high) (layout : Layout) (at i : ℕ) (e : leAt a at (sizeOf layout) ≡ leAt b at (sizeOf layout)) where
-  large-found : (place : ℕ) → overlap place (largeOf layout) low high ≡ false → (past cut : Bool)
+-- what is found is the same in both
+module _ (a b : List ℕ) (layout : Layout) (at i : ℕ) (e : leAt a at (sizeOf layout) ≡ leAt b at (sizeOf layout)) where
+  large-found : (place : ℕ) → Agree a b place (place + largeOf layout) → (past cut : Bool)
       → found a layout at i (cond past (wh.Refused 2) (cond cut (wh.Refused 3) (wh.Large place))) ≡ found b layout at i (cond past (wh.Refused 2) (cond cut (wh.Refused 3) (wh.Large place)))
-  large-found place o true cut = refl
-  large-found place o false true = refl
-  large-found place o false false = ap (λ (r : Record). gives (foundAt place r)) (large-same a b layout place i (agrees v place (largeOf layout) o))
+  large-found place v true cut = refl
+  large-found place v false true = refl
+  large-found place v false false = ap (λ (r : Record). gives (foundAt place r)) (large-same a b layout place i v)
 
-  same-found : (l : Link) → groundMeets (sizeOf layout) (largeOf layout) low high (groundBy at l) ≡ false
+  same-found : (l : Link) → OnGround a b layout (groundBy at l)
       → found a layout at i (whereOf b (largeOf layout) (groundBy at l)) ≡ found b layout at i (whereOf b (largeOf layout) (groundBy at l))
-  unfolding groundMeets whereOf below
-  same-found link.Own o = ap (λ (n : ℕ). gives (inlineFound layout i n)) e
-  same-found (link.Large place) o =
-      large-found place (or-right (overlap at (sizeOf layout) low high) (overlap place (largeOf layout) low high) o) (ltb (length b) place) (ltb (length b) (place + largeOf layout))
+  unfolding whereOf below
+  same-found link.Own v = ap (λ (n : ℕ). gives (inlineFound layout i n)) e
+  same-found (link.Large place) v = large-found place (v .1) (ltb (length b) place) (ltb (length b) (place + largeOf layout))
 
-module _ {a b : List ℕ} {low high : ℕ} (v : Same a b low high) (i : ℕ) (layout : Layout) where
+module _ (a b : List ℕ) (long : length a ≡ length b) (i : ℕ) (layout : Layout) where
+  same-header : (at : ℕ) (l : Link) → OnGround a b layout (groundBy at l) → leAt a at (sizeOf layout) ≡ leAt b at (sizeOf layout)
+  same-header at l v = same-num (own-agrees a b layout at l v) at (sizeOf layout) (le-refl at) (le-refl (at + sizeOf layout))
+
   -- by whether the header runs past the end
-  same-by : (at : ℕ) (cut : Bool) → ltb (length b) (at + sizeOf layout) ≡ cut → groundMeets (sizeOf layout) (largeOf layout) low high (groundOf b layout at) ≡ false
-      → recordAt a layout at i ≡ recordAt b layout at i
+  same-by : (at : ℕ) (cut : Bool) → ltb (length b) (at + sizeOf layout) ≡ cut → OnGround a b layout (groundOf b layout at) → recordAt a layout at i ≡ recordAt b layout at i
   unfolding recordAt whereAt groundOf whereOf below
-  same-by at true c o = rw (v .long, c)
-  same-by at false c o =
+  same-by at true c v = rw (long, c)
+  same-by at false c v =
       let l = linkOf (inlineOf layout 0 (leAt b at (sizeOf layout))) in
-      let q : groundMeets (sizeOf layout) (largeOf layout) low high (groundBy at l) ≡ false = rw c at o in
-      let e : leAt a at (sizeOf layout) ≡ leAt b at (sizeOf layout) =
-      same-num (agrees v at (sizeOf layout) (own-apart (sizeOf layout) (largeOf layout) low high at l q)) at (sizeOf layout) (le-refl at) (le-refl (at + sizeOf layout)) in
-      let h : groundOf a layout at ≡ groundBy at l = rw (v .long, c, e) in
+      let q : OnGround a b layout (groundBy at l) = rw c at v in
+      let e = same-header at l q in
+      let h : groundOf a layout at ≡ groundBy at l = rw (long, c, e) in
       let k : groundOf b layout at ≡ groundBy at l = rw c in
       ap (λ (x : Ground). found a layout at i (whereOf a (largeOf layout) x)) h
-      ∙ ap (found a layout at i) (where-same a b (largeOf layout) (groundBy at l) (v .long))
-      ∙ same-found v layout at i e l q
+      ∙ ap (found a layout at i) (where-same a b (largeOf layout) (groundBy at l) long)
+      ∙ same-found a b layout at i e l q
       ∙ ap (λ (x : Ground). found b layout at i (whereOf b (largeOf layout) x)) (sym k)
 
-  pub function-same : (start : ℕ) → meets b layout start low high i ≡ false → functionAt a layout start i ≡ functionAt b layout start i
-  unfolding meets groundAt functionAt
-  function-same start m = same-by (headerAt layout start i) (ltb (length b) (headerAt layout start i + sizeOf layout)) refl m
+  -- and so is what it is read from
+  ground-by : (at : ℕ) (cut : Bool) → ltb (length b) (at + sizeOf layout) ≡ cut → OnGround a b layout (groundOf b layout at) → groundOf a layout at ≡ groundOf b layout at
+  unfolding groundOf below
+  ground-by at true c v = rw (long, c)
+  ground-by at false c v =
+      let l = linkOf (inlineOf layout 0 (leAt b at (sizeOf layout))) in
+      let e = same-header at l (rw c at v) in
+      rw (long, c, e)
+
+  pub on-ground : (start : ℕ) → OnGround a b layout (groundAt b layout start i) → functionAt a layout start i ≡ functionAt b layout start i
+  unfolding groundAt functionAt
+  on-ground start v = same-by (headerAt layout start i) (ltb (length b) (headerAt layout start i + sizeOf layout)) refl v
+
+  pub same-ground : (start : ℕ) → OnGround a b layout (groundAt b layout start i) → groundAt a layout start i ≡ groundAt b layout start i
+  unfolding groundAt
+  same-ground start v = ground-by (headerAt layout start i) (ltb (length b) (headerAt layout start i + sizeOf layout)) refl v
+
+-- ---- and so where its ground meets neither of two spans that they differ in
+
+apart : {a b : List ℕ} {low₁ high₁ low₂ high₂ : ℕ} → SameBut a b low₁ high₁ low₂ high₂ → (layout : Layout) (g : Ground)
+    → groundMeets (sizeOf layout) (largeOf layout) low₁ high₁ g ≡ false → groundMeets (sizeOf layout) (largeOf layout) low₂ high₂ g ≡ false → OnGround a b layout g
+unfolding groundMeets
+apart v layout ground.None o u = tt
+apart v layout (ground.Inline at) o u = agrees v at (sizeOf layout) o u
+apart {low₁ = low₁} {high₁ = high₁} {low₂ = low₂} {high₂ = high₂} v layout (ground.Large at place) o u =
+    let n = sizeOf layout in let m = largeOf layout in (
+      agrees v at n (or-left (overlap at n low₁ high₁) (overlap place m low₁ high₁) o) (or-left (overlap at n low₂ high₂) (overlap place m low₂ high₂) u),
+      agrees v place m (or-right (overlap at n low₁ high₁) (overlap place m low₁ high₁) o) (or-right (overlap at n low₂ high₂) (overlap place m low₂ high₂) u),
+    )
+
+pub function-apart : {a b : List ℕ} {low₁ high₁ low₂ high₂ : ℕ} → SameBut a b low₁ high₁ low₂ high₂ → (i : ℕ) (layout : Layout) (start : ℕ)
+    → meets b layout start low₁ high₁ i ≡ false → meets b layout start low₂ high₂ i ≡ false → functionAt a layout start i ≡ functionAt b layout start i
+unfolding meets
+function-apart {a} {b} v i layout start m o = on-ground a b (v .long) i layout start (apart v layout (groundAt b layout start i) m o)
+
+pub function-same : {a b : List ℕ} {low high : ℕ} → Same a b low high → (i : ℕ) (layout : Layout) (start : ℕ) → meets b layout start low high i ≡ false
+    → functionAt a layout start i ≡ functionAt b layout start i
+function-same v i layout start m = function-apart (but-one v) i layout start m m
+
+-- nor does it then meet any other span in the one file and not in the other
+pub meets-same : {a b : List ℕ} {low high : ℕ} → Same a b low high → (i : ℕ) (layout : Layout) (start : ℕ) → meets b layout start low high i ≡ false
+    → (low′ high′ : ℕ) → meets a layout start low′ high′ i ≡ meets b layout start low′ high′ i
+unfolding meets
+meets-same {a} {b} v i layout start m low′ high′ =
+    ap (groundMeets (sizeOf layout) (largeOf layout) low′ high′) (same-ground a b (v .long) i layout start (apart (but-one v) layout (groundAt b layout start i) m m))
 
 -- ---- a function that is read has its header in the file
 

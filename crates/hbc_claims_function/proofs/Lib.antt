@@ -1,7 +1,9 @@
+pub mod Truths
 pub mod Agree
 pub mod Function
 pub mod Words
 pub mod Scans
+pub mod Choices
 pub mod Accepted
 pub mod Rows
 pub mod Meeting
@@ -9,6 +11,9 @@ pub mod Tables
 pub mod Totals
 pub mod Refreshed
 pub mod Stops
+pub mod Panes
+pub mod Again
+pub mod Together
 pub mod Packed
 pub mod Places
 pub mod Headers

@@ -1,11 +1,10 @@
 -- A table read from a, then refreshed with b, which is the same outside the span, is as a fresh read of b would be, in answer and in every word.
-use Prim.Native.Nat.{ℕ, _+_, _*_, _/_, _%_, _≤_, _<_}
+use Prim.Native.Nat.{ℕ, _+_, _*_, _≤_, _<_}
 use mathlib.Core.Path.{_≡_, refl, ap, sym, _∙_}
 use mathlib.Core.List.{List}
-use mathlib.Core.Bool.{Bool, true, false}
+use mathlib.Core.Bool.{Bool, true, false, cond}
 use native.Mathlib.Omega.{arith}
 use lib.ListN.{length, getD}
-use lib.Seq.{ext-getD}
 use lib.Dec.{ltb}
 use borrow.Author.Tests.{ltb-true, ltb-false, le-ltb}
 use Rattle.hbc_bits.proofs.Laws.{Bytes}
@@ -14,25 +13,26 @@ use Rattle.hbc_function_record.specs.declared.Layout.{Layout}
 use Rattle.hbc_function_record.specs.declared.Found.{Found}
 use Rattle.hbc_function_header.specs.declared.Reading.{Reading}
 use Rattle.hbc_function_header.specs.declared.Reading.the-variants as reading
-use Rattle.hbc_io.specs.Answer.{Answer, gives, refuses, asked, andThen}
+use Rattle.hbc_io.specs.Answer.{Answer, gives, asked, andThen}
 use Rattle.hbc_io.specs.Lends.{below}
 use Rattle.hbc_io.proofs.Exits.{not-given}
 use Rattle.hbc_function_header.specs.Header.{saysReading, functionAt}
 use Rattle.hbc_function_record.specs.Row.{width}
 use Rattle.hbc_function_header.specs.Meets.{meets}
-use Rattle.hbc_function_totals.specs.declared.Totals.{Totals}
 use Rattle.hbc_function.specs.declared.Refreshed.{Refreshed}
 use Rattle.hbc_function.specs.declared.Refreshed.the-variants as refreshed
 use Rattle.hbc_function.specs.Table.{scan, putRows, all, Table, readAnswer, ReadFunctions}
 use Rattle.hbc_function.specs.Refresh.{saysRefreshed, held, keptMet, ifKept, refreshAnswer, RefreshFunctions}
+use Rattle.hbc_function.proofs.ByFile.{kept-scan}
 use Rattle.hbc_function.proofs.Laws.{put-length, scanned, word-at}
 use Rattle.hbc_function.proofs.Sums.{held-short}
 use Rattle.hbc_claims_law.specs.Terms.{Same}
 use Rattle.hbc_claims_function.proofs.Function.{function-same}
-use Rattle.hbc_claims_function.proofs.Words.{word-kept, word-past}
-use Rattle.hbc_claims_function.proofs.Scans.{a-record, scan-each, alike, all-held}
+use Rattle.hbc_claims_function.proofs.Words.{word-kept, word-past, by-words}
+use Rattle.hbc_claims_function.proofs.Scans.{a-record, scan-each, scan-whole, alike, all-held}
 use Rattle.hbc_claims_function.proofs.Accepted.{accepted, refreshable}
-use Rattle.hbc_claims_function.proofs.Totals.{true-same, totals-read, totals-kept, kept-true}
+use Rattle.hbc_claims_function.proofs.Totals.{Sized, true-same, totals-read, totals-kept, words-sized, kept-true}
+use Rattle.hbc_claims_function.specs.Accepted.{Accepted}
 use Rattle.hbc_claims_function.specs.Totals.{True}
 use Rattle.hbc_claims_function.specs.Written.{Words}
 use Rattle.hbc_claims_function.specs.Refreshed.{AsFresh}
@@ -51,10 +51,29 @@ pub past-tests : (s : List ℕ) (layout : Layout) (start count low high : ℕ) (
 unfolding refreshAnswer below
 past-tests s layout start count low high t a b c d f g = sym (simp (le-ltb _ _ a, le-ltb _ _ b, le-ltb _ _ c, le-ltb _ _ d, le-ltb _ _ f, le-ltb _ _ g))
 
--- totals that are kept refuse nothing
-kept-asked : (a : Answer ℕ) (k : Answer Totals) {now : Totals} → k ≡ gives now → asked (andThen a (λ n. ifKept n k)) ≡ asked a
-kept-asked (gives n) k e = ap (λ (x : Answer Totals). asked (ifKept n x)) e
-kept-asked (refuses x) k e = refl
+-- a was read whole, and b is as long
+module _ (a b : List ℕ) (layout : Layout) (start count words : ℕ) (long : length a ≡ length b) (p : Accepted a layout start count words) where
+  short : length b ≤ limit
+  short = rw (← long) (p .short)
+
+  begins : start ≤ length b
+  begins = rw (← long) (p .begins)
+
+  -- a refresh with b, of a table with true totals, says what is scanned
+  pub scan-says : (low high : ℕ) (t : Table) → low ≤ high → high ≤ length b → Bytes b → Sized (t .rows) count → True t count → length (t .rows) ≡ words
+      → scan (meets b layout start low high) (functionAt b layout start) count ≡ refreshAnswer b layout start count low high t
+  scan-says low high t l h bytes w y n =
+      let h5 : count * width ≤ length (t .rows) = rw n (p .holds) in
+      let h6 = held-same a b layout start count long (all-held a layout start count (p .number) (p .begins) (p .scans)) in
+      let h7 = held-short b layout start in let h1 = short in
+      let k = kept-true b layout start count low high t bytes w y (omega arith) in
+      sym (kept-scan (scan (meets b layout start low high) (functionAt b layout start) count) (keptMet b layout start low high t count) (k .1))
+      ∙ past-tests b layout start count low high t short begins l h h5 h6
+
+  -- and a read of b what is scanned of some, if the others are known to be read
+  pub read-says : (chosen : ℕ → Bool) (f : ℕ → Answer Found) (k : ℕ) → scan all f count ≡ gives k → ((i : ℕ) → chosen i ≡ false → f i ≡ functionAt b layout start i)
+      → asked (scan chosen (functionAt b layout start) count) ≡ readAnswer b layout start count words
+  read-says chosen f k e same = sym (alike chosen f (functionAt b layout start) same count k e) ∙ scanned b layout start count words short begins (p .holds)
 
 -- a fresh read of b answers as the refresh does, but for the count
 pub same-answer : {a b : List ℕ} {low high : ℕ} → Same a b low high → low ≤ high → high ≤ length b → (layout : Layout) (start count words : ℕ) (t : Table)
@@ -62,56 +81,58 @@ pub same-answer : {a b : List ℕ} {low high : ℕ} → Same a b low high → lo
     → readAnswer b layout start count words ≡ asked (refreshAnswer b layout start count low high t)
 same-answer {a} {b} {low} {high} v l h layout start count words t bytes w y n e =
     let p = accepted a layout start count words e in
-    let h1 : length b ≤ limit = rw (← v .long) (p .short) in
-    let h2 : start ≤ length b = rw (← v .long) (p .begins) in
-    let h6 : count ≤ held b layout start = held-same a b layout start count (v .long) (all-held a layout start count (p .number) (p .begins) (p .scans)) in
-    let h7 = held-short b layout start in
-    let h5 : count * width ≤ length (t .rows) = rw n (p .holds) in
-    let k = kept-true b layout start count low high t bytes w y (omega arith) in
-    sym (scanned b layout start count words h1 h2 (p .holds))
-    ∙ alike (meets b layout start low high) (functionAt a layout start) (functionAt b layout start) (λ i m. function-same v i layout start m) count (p .number) (p .scans)
-    ∙ sym (kept-asked (scan (meets b layout start low high) (functionAt b layout start) count) (keptMet b layout start low high t count) (k .1))
-    ∙ ap asked (past-tests b layout start count low high t h1 h2 l h h5 h6)
+    sym (read-says a b layout start count words (v .long) p (meets b layout start low high) (functionAt a layout start) (p .number) (p .scans) (λ i m. function-same v i layout start m))
+    ∙ ap asked (scan-says a b layout start count words (v .long) p low high t l h bytes (words-sized (t .rows) count w) y n)
 
 -- ---- the tables
 
--- fa's rows, and over them the chosen of fb's, are fb's rows, where fa and fb are the same but for the chosen, and all that is put can be read
-module _ (chosen : ℕ → Bool) (fa fb : ℕ → Answer Found) (same : (i : ℕ) → chosen i ≡ false → fa i ≡ fb i) (n k m : ℕ) (e : scan chosen fb n ≡ gives k)
-    (all-read : scan all fa n ≡ gives m) (t : List ℕ) (h : n * width ≤ length t) where
-  over-long : n * width ≤ length (putRows all fa t n)
-  over-long = rw (put-length all fa t n) h
+-- the chosen of fb, and the others of fa
+abbrev pub mix : (ℕ → Bool) → (ℕ → Answer Found) → (ℕ → Answer Found) → ℕ → Answer Found
+mix chosen fa fb i = cond (chosen i) (fb i) (fa i)
 
-  over-by : (i c : ℕ) → c < width → (lt : Bool) → ltb i n ≡ lt → (b : Bool) → chosen i ≡ b
-      → getD (putRows chosen fb (putRows all fa t n) n) (i * width + c) 0 ≡ getD (putRows all fb t n) (i * width + c) 0
-  over-by i c q false l b p =
-      let o : n ≤ i = ltb-false i n l in
-      word-past chosen fb (putRows all fa t n) n i c q o ∙ word-past all fa t n i c q o ∙ sym (word-past all fb t n i c q o)
-  over-by i c q true l true p =
-      let o : i < n = ltb-true i n l in
-      let r = a-record (fb i) (scan-each chosen fb n k i o e p) in
-      word-at chosen fb (putRows all fa t n) n i c (r .0) over-long o q p (r .1) ∙ sym (word-at all fb t n i c (r .0) h o q refl (r .1))
-  over-by i c q true l false p =
-      let o : i < n = ltb-true i n l in
-      let r = a-record (fa i) (scan-each all fa n m i o all-read refl) in
-      word-kept chosen fb (putRows all fa t n) n i c q p ∙ word-at all fa t n i c (r .0) h o q refl (r .1)
-      ∙ sym (word-at all fb t n i c (r .0) h o q refl (sym (same i p) ∙ r .1))
+-- fa's rows, and over them the chosen of fb's, are the rows of both, where all that is put can be read
+module _ (chosen : ℕ → Bool) (fa fb : ℕ → Answer Found) (n k m : ℕ) (e : scan chosen fb n ≡ gives k) (all-read : scan all fa n ≡ gives m) where
+  mix-read : (i : ℕ) → i < n → (b : Bool) → chosen i ≡ b → asked (cond b (fb i) (fa i)) ≡ gives tt
+  mix-read i o true p = scan-each chosen fb n k i o e p
+  mix-read i o false p = scan-each all fa n m i o all-read refl
 
-  over-word : (j : ℕ) → getD (putRows chosen fb (putRows all fa t n) n) j 0 ≡ getD (putRows all fb t n) j 0
-  over-word j =
-      let i : ℕ = j / width in
-      let c : ℕ = j % width in
-      let q : j ≡ i * width + c = omega arith in
-      rw q (over-by i c (omega arith) (ltb i n) refl (chosen i) refl)
+  pub mix-scan : (j : ℕ) × (scan all (mix chosen fa fb) n ≡ gives j)
+  mix-scan = scan-whole (mix chosen fa fb) n (λ i o. mix-read i o (chosen i) refl)
 
-  pub over : putRows chosen fb (putRows all fa t n) n ≡ putRows all fb t n
-  over =
-      ext-getD 0 (putRows chosen fb (putRows all fa t n) n) (putRows all fb t n)
-      (put-length chosen fb (putRows all fa t n) n ∙ put-length all fa t n ∙ sym (put-length all fb t n))
-      (λ j l. over-word j)
+  module _ (t : List ℕ) (h : n * width ≤ length t) where
+    mix-by : (i c : ℕ) → c < width → (lt : Bool) → ltb i n ≡ lt → (b : Bool) → chosen i ≡ b
+        → getD (putRows chosen fb (putRows all fa t n) n) (i * width + c) 0 ≡ getD (putRows all (mix chosen fa fb) t n) (i * width + c) 0
+    mix-by i c q false l b p =
+        let o : n ≤ i = ltb-false i n l in
+        word-past chosen fb (putRows all fa t n) n i c q o ∙ word-past all fa t n i c q o ∙ sym (word-past all (mix chosen fa fb) t n i c q o)
+    mix-by i c q true l true p =
+        let o : i < n = ltb-true i n l in
+        let r = a-record (fb i) (scan-each chosen fb n k i o e p) in
+        word-at chosen fb (putRows all fa t n) n i c (r .0) (rw (put-length all fa t n) h) o q p (r .1)
+        ∙ sym (word-at all (mix chosen fa fb) t n i c (r .0) h o q refl (ap (λ (x : Bool). cond x (fb i) (fa i)) p ∙ r .1))
+    mix-by i c q true l false p =
+        let o : i < n = ltb-true i n l in
+        let r = a-record (fa i) (scan-each all fa n m i o all-read refl) in
+        word-kept chosen fb (putRows all fa t n) n i c q p ∙ word-at all fa t n i c (r .0) h o q refl (r .1)
+        ∙ sym (word-at all (mix chosen fa fb) t n i c (r .0) h o q refl (ap (λ (x : Bool). cond x (fb i) (fa i)) p ∙ r .1))
+
+    pub mixed : putRows chosen fb (putRows all fa t n) n ≡ putRows all (mix chosen fa fb) t n
+    mixed =
+        by-words (putRows chosen fb (putRows all fa t n) n) (putRows all (mix chosen fa fb) t n)
+        (put-length chosen fb (putRows all fa t n) n ∙ put-length all fa t n ∙ sym (put-length all (mix chosen fa fb) t n))
+        (λ i c q. mix-by i c q (ltb i n) refl (chosen i) refl)
+
+    -- which are fb's, where fa and fb are the same but for the chosen
+    pub over : ((i : ℕ) → chosen i ≡ false → fa i ≡ fb i) → putRows chosen fb (putRows all fa t n) n ≡ putRows all fb t n
+    over same = mixed ∙ ap (λ (f : ℕ → Answer Found). putRows all f t n) (λ j i. one i (chosen i) refl j)
+      where
+        one : (i : ℕ) (b : Bool) → chosen i ≡ b → cond b (fb i) (fa i) ≡ fb i
+        one i true p = refl
+        one i false p = same i p
 
 -- ---- the theorem, over the promises alone: t₀ is what the read of a leaves, t₁ its rows with true totals
 
-rows-by : (a : List ℕ) (layout : Layout) (start count : ℕ) {t t₀ : Table} {rows : List ℕ} → ReadFunctions a layout start count t reading.Read t₀ → rows ≡ t₀ .rows
+pub rows-by : (a : List ℕ) (layout : Layout) (start count : ℕ) {t t₀ : Table} {rows : List ℕ} → ReadFunctions a layout start count t reading.Read t₀ → rows ≡ t₀ .rows
     → rows ≡ putRows all (functionAt a layout start) (t .rows) count
 rows-by a layout start count p e = e ∙ ap (λ (x : Table). x .rows) (p .leaves)
 
@@ -124,8 +145,8 @@ module _ {a b : List ℕ} {low high : ℕ} (v : Same a b low high) (layout : Lay
       true-same
       (ap (λ (u : Table). u .rows) (g .leaves)
       ∙ ap (λ (u : List ℕ). putRows (meets b layout start low high) (functionAt b layout start) u count) (rows-by a layout start count p rows)
-      ∙ over (meets b layout start low high) (functionAt a layout start) (functionAt b layout start) (λ i m. function-same v i layout start m) count n (x .number) (y .scans)
-      (x .scans) (t .rows) (x .holds)
+      ∙ over (meets b layout start low high) (functionAt a layout start) (functionAt b layout start) count n (x .number) (y .scans) (x .scans) (t .rows) (x .holds)
+      (λ i m. function-same v i layout start m)
       ∙ sym (ap (λ (u : Table). u .rows) (f .leaves)))
       (totals-kept b layout start count low high n t₁ t₃ g true-before) (totals-read b layout start count t t₂ f)
 

@@ -17,7 +17,7 @@ use Rattle.hbc_function_record.specs.Record.{sizeOf}
 use Rattle.hbc_function_header.specs.Header.{functionAt}
 use Rattle.hbc_function.specs.Table.{counted, step, scan, all}
 use Rattle.hbc_function.specs.Refresh.{held}
-use Rattle.hbc_function.proofs.Laws.{size-pos}
+use Rattle.hbc_function.proofs.Laws.{step-read, size-pos}
 use Rattle.hbc_claims_function.proofs.Function.{ends}
 use Rattle.hbc_claims_law.specs.Terms.{countOf}
 
@@ -92,6 +92,14 @@ module _ (chosen : ℕ → Bool) (f : ℕ → Answer Found) where
       let b = step-before (chosen n) (scan chosen f n) (f n) k e in
       step-count (chosen n) (b .0) k (f n) (sym (ap (λ (x : Answer ℕ). step (chosen n) x (f n)) (b .1)) ∙ e)
       ∙ ap (λ (j : ℕ). cond (chosen n) (j + 1) j) (scan-counts n (b .0) (b .1))
+
+-- all that can be read each by itself is scanned
+pub scan-whole : (f : ℕ → Answer Found) (n : ℕ) → ((i : ℕ) → i < n → asked (f i) ≡ gives tt) → (k : ℕ) × (scan all f n ≡ gives k)
+unfolding scan
+scan-whole f zero h = (0, refl)
+scan-whole f (suc n) h =
+    let b = scan-whole f n (λ i l. h i (omega arith)) in
+    (b .0 + 1, ap (λ (x : Answer ℕ). step true x (f n)) (b .1) ∙ sym (step-read (b .0) (f n) refl (sym (h n (omega arith)))))
 
 -- ---- two scans
 

@@ -35,7 +35,7 @@ use Rattle.hbc_function.proofs.Sums.{held-short}
 use Rattle.hbc_claims_function.specs.Totals.{True, Fails, large-below, sizes-below, large-above, sizes-above, Stopped, Passed}
 use Rattle.hbc_claims_function.specs.Written.{Words}
 use Rattle.hbc_claims_function.proofs.Scans.{scan-each, scan-front}
-use Rattle.hbc_claims_function.proofs.Totals.{large-word, size-word, kept-true}
+use Rattle.hbc_claims_function.proofs.Totals.{large-word, size-word, words-sized, kept-true}
 use Rattle.hbc_claims_function.proofs.Accepted.{refreshable}
 use Rattle.hbc_claims_function.proofs.Refreshed.{past-tests}
 
@@ -133,7 +133,7 @@ pub totals-fit : (s : List ℕ) (layout : Layout) (start count low high : ℕ) (
 totals-fit s layout start count low high t t′ x b w v p n =
     let l = late s layout start count low high t n (sym (p .says)) in
     let h = held-short s layout start in let f = l .fits in let m = l .short in
-    let k = kept-true s layout start count low high t b w v (omega arith) in
+    let k = kept-true s layout start count low high t b (words-sized (t .rows) count w) v (omega arith) in
     not-given (sym (l .keeps) ∙ k .1)
 
 -- ---- the row at which it stops

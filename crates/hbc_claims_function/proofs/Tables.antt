@@ -21,7 +21,7 @@ use Rattle.hbc_claims_law.specs.Terms.{RowWord}
 use Rattle.hbc_claims_function.specs.Tables.{Filled, Rewritten}
 
 -- word c of row i, where functions 0 to n - 1 were put and i is one that was chosen
-row-word : (chosen : ℕ → Bool) (s : List ℕ) (layout : Layout) (start n k : ℕ) (t : List ℕ) → n * width ≤ length t → scan chosen (functionAt s layout start) n ≡ gives k
+pub row-word : (chosen : ℕ → Bool) (s : List ℕ) (layout : Layout) (start n k : ℕ) (t : List ℕ) → n * width ≤ length t → scan chosen (functionAt s layout start) n ≡ gives k
     → (i c : ℕ) → i < n → chosen i ≡ true → c < width → RowWord s layout start i c (getD (putRows chosen (functionAt s layout start) t n) (i * width + c) 0)
 row-word chosen s layout start n k t h e i c l p q =
     let f = functionAt s layout start in

@@ -70,14 +70,17 @@ pub totals-read : (s : List ℕ) (layout : Layout) (start count : ℕ) (t t′ :
 totals-read s layout start count t t′ p =
     true-by (ap (λ (x : Table). x .totals) (p .leaves) ∙ ap (λ (u : List ℕ). totalsOf u count) (sym (ap (λ (x : Table). x .rows) (p .leaves))))
 
--- tables of the same rows with true totals are the same
-pub true-same : {t u : Table} {n : ℕ} → t .rows ≡ u .rows → True t n → True u n → t ≡ u
-true-same {t} {u} {n} e v w =
-    let l : t .totals .large ≡ u .totals .large = v .large ∙ ap (λ (x : List ℕ). sum all (oneIfLarge x) n) e ∙ sym (w .large) in
-    let s : t .totals .sizes ≡ u .totals .sizes = v .sizes ∙ ap (λ (x : List ℕ). sum all (sizeWord x) n) e ∙ sym (w .sizes) in
+-- a table is known by its rows and its two totals
+pub table-is : {t u : Table} → t .rows ≡ u .rows → t .totals .large ≡ u .totals .large → t .totals .sizes ≡ u .totals .sizes → t ≡ u
+table-is {t} {u} e l s =
     ap (λ (x : List ℕ). record { rows = x; totals = t .totals }) e
     ∙ ap (λ (x : ℕ). record { rows = u .rows; totals = totals x (t .totals .sizes) }) l
     ∙ ap (λ (x : ℕ). record { rows = u .rows; totals = totals (u .totals .large) x }) s
+
+-- tables of the same rows with true totals are the same
+pub true-same : {t u : Table} {n : ℕ} → t .rows ≡ u .rows → True t n → True u n → t ≡ u
+true-same {t} {u} {n} e v w =
+    table-is e (v .large ∙ ap (λ (x : List ℕ). sum all (oneIfLarge x) n) e ∙ sym (w .large)) (v .sizes ∙ ap (λ (x : List ℕ). sum all (sizeWord x) n) e ∙ sym (w .sizes))
 
 -- ---- by the sums, in any table
 
@@ -114,9 +117,14 @@ module _ (chosen : ℕ → Bool) (old new : ℕ → Share) (before : Totals) whe
       record { large = omega arith; sizes = omega arith; few = λ h. absurd (omega arith) }
   gone (suc n) now e = gone-by n (chosen n) (kept chosen old new before n) now refl (gone n) e
 
+-- what a total is beyond the sum over all rows, or short of it, is the same of two tables
+pub record Along (count : ℕ) (t t′ : Table) : Type 0 where
+  pub large : t′ .totals .large + sum all (oneIfLarge (t .rows)) count ≡ t .totals .large + sum all (oneIfLarge (t′ .rows)) count
+  pub sizes : t′ .totals .sizes + sum all (sizeWord (t .rows)) count ≡ t .totals .sizes + sum all (sizeWord (t′ .rows)) count
+
 module _ (s : List ℕ) (layout : Layout) (start count low high k : ℕ) (t t′ : Table) (p : RefreshFunctions s layout start count low high t (refreshed.Done k) t′) where
   -- the share of a function that was read again is that of its row now
-  share-now : (i : ℕ) → i < count → meets s layout start low high i ≡ true → shareBy (functionAt s layout start i) ≡ shareOf (rowAt width (t′ .rows) i)
+  pub share-now : (i : ℕ) → i < count → meets s layout start low high i ≡ true → shareBy (functionAt s layout start i) ≡ shareOf (rowAt width (t′ .rows) i)
   share-now i h m =
       let a = refreshable s layout start count low high t k (sym (p .says)) in
       let r = a-record (functionAt s layout start i) (scan-each (meets s layout start low high) (functionAt s layout start) count k i h (a .scans) m) in
@@ -143,15 +151,22 @@ module _ (s : List ℕ) (layout : Layout) (start count low high k : ℕ) (t t′
         most = λ h. let f = v .few (omega arith) in let g = f .0 in let u = f .1 in (omega arith, omega arith);
       }
 
-  -- ---- kept true by a refresh
-  pub totals-kept : True t count → True t′ count
-  totals-kept v =
+  -- each total moves as the sum over the whole table does
+  pub moved-along : Along count t t′
+  moved-along =
       let w = rewritten p in
       let m = totals-moved in
       let a = sum-swap (meets s layout start low high) (oneIfLarge (t .rows)) (oneIfLarge (t′ .rows)) (oneIfLarge (t′ .rows)) count (λ i h c. refl)
       (λ i h c. ap (λ (x : ℕ). cond (eqb x 4294967295) 0 1) (w .unmet i ROW_LARGE_PLACE c (omega arith))) in
       let b = sum-swap (meets s layout start low high) (sizeWord (t .rows)) (sizeWord (t′ .rows)) (sizeWord (t′ .rows)) count (λ i h c. refl)
       (λ i h c. w .unmet i ROW_SIZE c (omega arith)) in
+      let ml = m .large in let ms = m .sizes in
+      record { large = omega arith; sizes = omega arith }
+
+  -- ---- kept true by a refresh
+  pub totals-kept : True t count → True t′ count
+  totals-kept v =
+      let m = moved-along in
       let ml = m .large in let ms = m .sizes in let vl = v .large in let vs = v .sizes in
       record { large = omega arith; sizes = omega arith }
 
@@ -190,8 +205,26 @@ unfolding largeRow
 new-large (gives f) = large-by (eqb (entryAt (rowWords f) ROW_LARGE_PLACE) inline)
 new-large (refuses x) = omega arith
 
+-- sizes that fit 32 bits, as all words do; and so after a refresh
+abbrev pub Sized : List ℕ → ℕ → Type 0
+Sized t count = (i : ℕ) → i < count → sizeWord t i ≤ 4294967295
+
+pub words-sized : (t : List ℕ) (count : ℕ) → Words t → Sized t count
+words-sized t count w = λ i h. let x = w (i * width + ROW_SIZE) in omega arith
+
+pub sized-kept : (s : List ℕ) (layout : Layout) (start count low high k : ℕ) (t t′ : Table) → Bytes s
+    → RefreshFunctions s layout start count low high t (refreshed.Done k) t′ → Sized (t .rows) count → Sized (t′ .rows) count
+sized-kept s layout start count low high k t t′ b p z = λ i h. by i h (meets s layout start low high i) refl
+  where
+    by : (i : ℕ) → i < count → (met : Bool) → meets s layout start low high i ≡ met → sizeWord (t′ .rows) i ≤ 4294967295
+    by i h true m =
+        let n = new-size s b layout start i in
+        let e = ap (λ (x : Share). x .size) (share-now s layout start count low high k t t′ p i h m) ∙ size-word (t′ .rows) i in
+        omega arith
+    by i h false m = let n = z i h in let e = rewritten p .unmet i ROW_SIZE m (omega arith) in omega arith
+
 -- true totals can be kept
-pub kept-true : (s : List ℕ) (layout : Layout) (start count low high : ℕ) (t : Table) → Bytes s → Words (t .rows) → True t count → count ≤ limit
+pub kept-true : (s : List ℕ) (layout : Layout) (start count low high : ℕ) (t : Table) → Bytes s → Sized (t .rows) count → True t count → count ≤ limit
     → (now : Totals) × (keptMet s layout start low high t count ≡ gives now)
 kept-true s layout start count low high t b w v h =
     let chosen = meets s layout start low high in
@@ -201,7 +234,7 @@ kept-true s layout start count low high t b w v h =
     let al = large-sum all (t .rows) count in let az = size-sum all (t .rows) count in
     let pl = sum-part chosen (λ i. old i .large) count in let ps = sum-part chosen (λ i. old i .size) count in
     let ml = sum-most all (oneIfLarge (t .rows)) 1 count (λ i k. large-by (eqb (getD (t .rows) (i * width + ROW_LARGE_PLACE) 0) 4294967295)) in
-    let ms = sum-most all (sizeWord (t .rows)) 4294967295 count (λ i k. let x = w (i * width + ROW_SIZE) in omega arith) in
+    let ms = sum-most all (sizeWord (t .rows)) 4294967295 count w in
     let nl = sum-most chosen (λ i. new i .large) 1 count (λ i k. new-large (functionAt s layout start i)) in
     let ns = sum-most chosen (λ i. new i .size) 4294967295 count (λ i k. new-size s b layout start i) in
     (_, kept-safe chosen old new (t .totals) count (record { large = omega arith; sizes = omega arith; large-most = omega arith; sizes-most = omega arith }))

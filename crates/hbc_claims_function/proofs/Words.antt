@@ -4,7 +4,8 @@ use mathlib.Core.Path.{_≡_, refl, ap, sym, _∙_}
 use mathlib.Core.List.{List, []}
 use mathlib.Core.Bool.{Bool, true, false}
 use native.Mathlib.Omega.{arith}
-use lib.ListN.{getD}
+use lib.ListN.{length, getD}
+use lib.Seq.{ext-getD}
 use lib.Dec.{eqb}
 use borrow.Author.Tests.{eqb-true, eqb-false}
 use Rattle.hbc_io.specs.Answer.{Answer}
@@ -14,6 +15,15 @@ use Rattle.hbc_function_record.specs.declared.Found.{Found}
 use Rattle.hbc_function_record.specs.Row.{width}
 use Rattle.hbc_function.specs.Table.{rowIf, putRows}
 use Rattle.hbc_function.proofs.Laws.{short, put-nothing}
+
+-- a table is known by its length and the words of its rows
+pub by-words : (u v : List ℕ) → length u ≡ length v → ((i c : ℕ) → c < width → getD u (i * width + c) 0 ≡ getD v (i * width + c) 0) → u ≡ v
+by-words u v e w = ext-getD 0 u v e (λ j l. word j)
+  where
+    word : (j : ℕ) → getD u j 0 ≡ getD v j 0
+    word j =
+        let q : j ≡ j / width * width + j % width = omega arith in
+        ap (λ (x : ℕ). getD u x 0) q ∙ w (j / width) (j % width) (omega arith) ∙ ap (λ (x : ℕ). getD v x 0) (sym q)
 
 module _ (chosen : ℕ → Bool) (f : ℕ → Answer Found) (t : List ℕ) where
   kept-by : (n i c : ℕ) → c < width → chosen i ≡ false → getD (rows.putRows width (rowIf chosen f) 0 n t) (i * width + c) 0 ≡ getD t (i * width + c) 0

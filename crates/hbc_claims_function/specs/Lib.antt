@@ -5,6 +5,7 @@ pub mod Tables
 pub mod Places
 pub mod Refreshed
 pub mod Totals
+pub mod Panes
 pub mod Packed
 pub mod BitLayout
 pub mod Written

@@ -1,3 +1,4 @@
+pub mod ByFile
 pub mod Laws
 pub mod Passes
 pub mod Plains

@@ -701,8 +701,17 @@ pub fn read_functions_into<'t>(
 /// as [`Totals::of`] adds them up; and so they are afterwards. Of each row that is read again what it has in them is taken
 /// out, and then what it has now is added.
 ///
-/// Refused, no row and no total was changed, and the edit is not taken in: the caller undoes it, or holds it in the span of
-/// the next call too; a file of another length is read anew. [`FunctionTable::refresh`] sees to this by itself.
+/// Refused, no row and no total was changed, and the edit is not taken in: the caller undoes it before the next call, or
+/// holds it in the span of that call too; a file of another length is read anew. [`FunctionTable::refresh`] sees to this by
+/// itself.
+///
+/// Two edits may be in the file when their refreshes come, one for each span: in either order the rows and totals in the end
+/// are the same, each answers as it would alone, and one that is done again changes nothing and answers the same (proved,
+/// for totals that are those of the rows). Of rows that were read before both edits, nothing else having changed, the end is
+/// a fresh read's if both are accepted. A function that meets both spans is read again by both, and counted by both. Of a
+/// call that is refused nothing stands, and the other does what it would do without that call, with both edits in the file;
+/// when the bytes of the refused one are undone or put right after it, its own span is refreshed again, and no other. Any
+/// two refreshes of the same file that follow one another may be exchanged, however many there are.
 ///
 /// # Errors
 ///
@@ -1193,6 +1202,13 @@ impl FunctionTable {
     /// Refused, no row and no total is changed, and the span is remembered ([`pending`](Self::pending)): the next refresh
     /// reads again what has a part in the bytes from the first to the last that are not taken in.
     ///
+    /// Two edits, or more, may be in the file when their refreshes come, one for each span, in any order: where none is
+    /// refused, what each reads again, and rows and totals in the end, are the same, and after the last the table is a fresh
+    /// read's (proved for two). A function that has a part in several of the spans is read again by each. But the span of
+    /// one that is refused is joined to the next, whatever that is: where a function could not be read, the next is refused
+    /// too, until the edit is undone or put right; where only the span was bad, or the file of another length, the next
+    /// takes it in. Whoever would take in the others meanwhile lends rows to [`refresh_functions`], which remembers nothing.
+    ///
     /// ```
     /// use bisquepond::{Layout, function};
     ///
@@ -1212,6 +1228,29 @@ impl FunctionTable {
     ///
     /// // Bytes that no header has a part in.
     /// assert_eq!(table.refresh(&file, 16..1000)?.len(), 0);
+    /// # Ok::<(), bisquepond::Refusal>(())
+    /// ```
+    ///
+    /// Two edits, and both orders:
+    ///
+    /// ```
+    /// # use bisquepond::{Layout, function};
+    /// // Function 1 has its large header at byte 1000. The header of function 0 is edited, and that large header.
+    /// let mut file = vec![0; 1031];
+    /// file[16..18].copy_from_slice(&1000u16.to_le_bytes());
+    /// file[31] = 0x20;
+    /// let mut table = function::read_functions(&file, Layout::Legacy16, 0, 2)?;
+    /// let mut other = table.clone();
+    /// (file[4], file[1008]) = (7, 77);
+    ///
+    /// assert!(table.refresh(&file, ..32)?.eq([0, 1]));
+    /// assert!(table.refresh(&file, 1000..)?.eq([1]));
+    ///
+    /// assert!(other.refresh(&file, 1000..)?.eq([1]));
+    /// assert!(other.refresh(&file, ..32)?.eq([0, 1]));
+    ///
+    /// assert_eq!((&table, table.totals()), (&other, other.totals()));
+    /// assert_eq!(table, function::read_functions(&file, Layout::Legacy16, 0, 2)?);
     /// # Ok::<(), bisquepond::Refusal>(())
     /// ```
     ///

@@ -1,5 +1,6 @@
 //! One call on function headers.
 
+pub mod panes;
 pub mod totals;
 pub mod write;
 
@@ -454,10 +455,14 @@ impl Compare for Case<'_> {
     }
 }
 
-/// `OP LAYOUT START COUNT LOW HIGH FILE TABLE LARGE SIZES`, as a difference prints them; or `Write ..`, or `Zeros ..`.
+/// `OP LAYOUT START COUNT LOW HIGH FILE TABLE LARGE SIZES`, as a difference prints them; or `Write ..`, `Panes ..`
+/// or `Zeros ..`.
 pub fn replay(words: &mut Words) -> Result<String, Difference> {
     if words.called("Write") {
         return write::replay(words);
+    }
+    if words.called("Panes") {
+        return panes::replay(words);
     }
     if words.called("Zeros") {
         return super::differences::replay(words);

@@ -1,5 +1,6 @@
 //! The groups of inputs on which the two sides of the function tables are compared.
 
+pub mod panes;
 pub mod totals;
 pub mod write;
 
@@ -31,6 +32,7 @@ pub fn compare(run: &mut Run) -> Compared {
         (0..20_000).try_for_each(|_| edit(run, &mut random))
     })?;
     totals::compare(run)?;
+    panes::compare(run)?;
     write::compare(run)?;
     run.group("a file of 2^30 bytes", longest)?;
     run.group("2^30 + 1 bytes, against docs/FORMAT.md", too_long)?;
@@ -686,13 +688,14 @@ fn many(run: &mut Run) -> Compared {
     Ok(())
 }
 
-/// Edits as above, one by one and one after another, each call with numbers of any size, any totals, and rows that are
-/// written.
+/// Edits as above, one by one, one after another and two at once, each call with numbers of any size, any totals, and rows
+/// that are written.
 fn random(run: &mut Run) -> Compared {
     let mut random = run.random(10);
-    let mut seen = totals::Seen::default();
+    let (mut seen, mut pairs) = (totals::Seen::default(), panes::Seen::default());
     while run.more() {
         edit(run, &mut random)?;
+        panes::any(run, &mut random, &mut pairs)?;
         totals::any(run, &mut random)?;
         totals::sequence(run, &mut random, 32, &mut seen)?;
         let table = any_table(&mut random, None);
