@@ -1,8 +1,8 @@
-/* What include/hbc.h says besides its prototypes, as a caller meets it: names, what a refused call leaves, the two modes
- * of strings, a string's text, why a function has no handlers, which LEB128 numbers are exact, what a refused refresh
- * asks for, what becomes of the totals, what stands for no large header and where a row says that there is one, what is
- * written and what is not. C99 and C++. Prints nothing; at the first test that fails its line, and then ends with
- * status 1. */
+/* What include/hbc.h says besides its prototypes, as a caller meets it: names, what a refused call leaves, the two
+ * modes of strings, a string's text, why a function has no handlers, which rule a bundle breaks, which LEB128 numbers
+ * are exact, what a refused refresh asks for, what becomes of the totals, what stands for no large header and where a
+ * row says that there is one, what is written and what is not. C99 and C++. Prints nothing; at the first test that
+ * fails its line, and then ends with status 1. */
 #include <stdio.h>
 #include <string.h>
 
@@ -187,6 +187,74 @@ static int handlers(void)
     CHECK(is(hbc_why_no_handlers(file, 45, rows, HBC_FUNCTION_WORDS, UINT32_MAX, &number), "TOO_FEW_TO_READ"));
     CHECK(is(hbc_why_no_handlers(file, (size_t)HBC_LIMIT + 1, rows, 0, 0, &number), "TOO_LONG"));
     CHECK(number == 99 && hbc_why_no_handlers(file, 0, rows, HBC_FUNCTION_WORDS, 0, &number) == HBC_WHY_INFO_PAST);
+    return 0;
+}
+
+/* No two rules have one number, or this is not compiled. */
+static const char *rule_name(uint64_t code)
+{
+    switch (code) {
+    case HBC_CLEAN: return "CLEAN";
+    case HBC_RULE_LARGE_HEADERS: return "LARGE_HEADERS";
+    case HBC_RULE_KIND_RUNS: return "KIND_RUNS";
+    case HBC_RULE_STRINGS: return "STRINGS";
+    case HBC_RULE_EMPTY_TAGS: return "EMPTY_TAGS";
+    case HBC_RULE_LITERAL_STRINGS: return "LITERAL_STRINGS";
+    default: return name(code);
+    }
+}
+
+/* Two legacy functions with their large headers at these places, runs, entries and series of two strings: each answer.
+ * `place` is written where a rule is broken, and by no other answer. */
+static int bundles(void)
+{
+    enum { END = 32, LARGE = 31, LEFT = 99 };
+    static const uint32_t no_pairs[1] = {0};
+    /* At 0 string 1, at 2 a tag of length 0 between two nulls, at 5 string 7. */
+    static const uint8_t literals[] = {0x61, 1, 0x01, 0x00, 0x01, 0x61, 7};
+    static const uint8_t storage[] = {'a', 'b'};
+    static const struct {
+        uint8_t places[2];
+        uint32_t runs[2], entries[2], series[2 * HBC_SERIES_WORDS];
+        const char *answer;
+        uint32_t place;
+    } cases[] = {
+        {{END + LARGE, END}, {1, 1}, {1u << 24, 2u << 24}, {1, 0, 1, 0, 2, 1}, "CLEAN", LEFT},
+        {{END + LARGE - 1, END}, {1, 0}, {9u << 1, 0}, {0, 2, 2, 0, 5, 1}, "LARGE_HEADERS", 0},
+        {{END + LARGE, END - 1}, {1, 0}, {9u << 1, 0}, {0, 2, 2, 0, 5, 1}, "LARGE_HEADERS", 1},
+        {{END, END + LARGE}, {1, 1u << 31}, {9u << 1, 0}, {0, 2, 2, 0, 5, 1}, "KIND_RUNS", 1},
+        {{END, END + LARGE}, {1, 2}, {9u << 1, 0}, {0, 2, 2, 0, 5, 1}, "KIND_RUNS", 2},
+        {{END, END + LARGE}, {1, 1}, {0, 2u << 1}, {0, 5, 1, 0, 2, 2}, "STRINGS", 1},
+        {{END, END + LARGE}, {1, 1}, {0, 0}, {0, 5, 1, 0, 2, 2}, "EMPTY_TAGS", 1},
+        {{END, END + LARGE}, {1, 1}, {0, 0}, {0, 5, 1, 0, 2, 1}, "LITERAL_STRINGS", 0},
+        {{END, END + LARGE + 1}, {0, 0}, {9u << 1, 0}, {0, 2, 2, 0, 7, 1}, "CUT", LEFT},
+        {{END, END + 2 * LARGE + 1}, {0, 0}, {9u << 1, 0}, {0, 2, 2, 0, 7, 1}, "PAST_END", LEFT},
+        {{0, 0}, {0, 0}, {9u << 1, 255u << 24}, {0, 2, 2, 0, 7, 1}, "NO_OVERFLOW_PAIR", LEFT},
+        {{0, 0}, {0, 0}, {9u << 1, 0}, {0, 2, 2, 0, 7, 1}, "SERIES_PAST_END", LEFT},
+        {{0, 0}, {0, 0}, {9u << 1, 0}, {0, 5, 2, 0, 7, 1}, "CUT", LEFT},
+    };
+    uint8_t file[END + 2 * LARGE];
+    uint32_t place = LEFT;
+    size_t i;
+    for (i = 0; i < sizeof cases / sizeof *cases; i++) {
+        uint64_t code;
+        memset(file, 0, sizeof file);
+        file[0] = cases[i].places[0], file[16] = cases[i].places[1];
+        file[15] = file[31] = HBC_FLAG_OVERFLOWED;
+        place = LEFT;
+        code = hbc_check_bundle(file, sizeof file, HBC_LAYOUT_LEGACY16, 0, 2, cases[i].runs, 2, 2, cases[i].entries, 2,
+                                no_pairs, 0, storage, 2, literals, 7, literals, 7, cases[i].series,
+                                2 * HBC_SERIES_WORDS, &place);
+        CHECK(strcmp(rule_name(code), cases[i].answer) == 0 && place == cases[i].place);
+    }
+    /* Words that make no row of a series are not looked at; a layout that there is not comes before all else. */
+    CHECK(hbc_check_bundle(file, 0, HBC_LAYOUT_MODERN12, 0, 0, no_pairs, 0, 0, no_pairs, 0, no_pairs, 0, storage, 0,
+                           literals, 0, literals, 0, cases[0].series, HBC_SERIES_WORDS - 1, &place) == HBC_CLEAN);
+    CHECK(is(hbc_check_bundle(file, (size_t)HBC_LIMIT + 1, 2, 1, 1, no_pairs, 1, 0, no_pairs, 0, no_pairs, 0, storage, 0,
+                              literals, 0, literals, 0, no_pairs, 0, &place), "NO_SUCH_LAYOUT"));
+    CHECK(is(hbc_check_bundle(file, (size_t)HBC_LIMIT + 1, 0, 1, 1, no_pairs, 1, 0, no_pairs, 0, no_pairs, 0, storage, 0,
+                              literals, 0, literals, 0, no_pairs, 0, &place), "TOO_LONG"));
+    CHECK(place == LEFT);
     return 0;
 }
 
@@ -468,6 +536,6 @@ static int version(void)
 
 int main(void)
 {
-    return refusals() || left() || modes() || texts() || handlers() || marks() || refresh() || totals() || ground() ||
-           large_place() || written() || version();
+    return refusals() || left() || modes() || texts() || handlers() || bundles() || marks() || refresh() || totals() ||
+           ground() || large_place() || written() || version();
 }

@@ -1,5 +1,5 @@
-/* How much stack hbc_read_debug takes: it is called on a stack that was painted before, and the deepest word that is no
- * longer paint is looked for. Exits 1 where it took more than include/hbc.h says. */
+/* How much stack hbc_read_debug and hbc_check_bundle take: they are called on a stack that was painted before, and the
+ * deepest word that is no longer paint is looked for. Exits 1 where one took more than include/hbc.h says. */
 #define _GNU_SOURCE
 #include <pthread.h>
 #include <stdio.h>
@@ -57,6 +57,28 @@ static void *read_it(void *answer) {
     return NULL;
 }
 
+/* `count` legacy functions behind one another, each with its large header behind the table: first, first + step, .. */
+static uint32_t functions;
+
+static void headers(uint32_t count, uint32_t first, int32_t step) {
+    file_len = (size_t)count * (16 + 31);
+    memset(file, 0, file_len);
+    for (uint32_t k = 0; k < count; k++) {
+        uint32_t place = count * 16 + 31 * (uint32_t)((int32_t)first + step * (int32_t)k);
+        word(file + 16 * k, place & 0xFFFF);
+        word(file + 16 * k + 8, place >> 16);
+        file[16 * k + 15] = HBC_FLAG_OVERFLOWED;
+    }
+    functions = count;
+}
+
+static void *check_it(void *answer) {
+    uint32_t place = 0;
+    *(uint64_t *)answer = hbc_check_bundle(file, file_len, HBC_LAYOUT_LEGACY16, 0, functions, none, 0, 0, none, 0, none, 0,
+                                           file, 0, file, 0, file, 0, none, 0, &place);
+    return NULL;
+}
+
 /* The bytes of a thread's stack that are no longer paint, from the deepest one up. */
 static size_t depth(void *(*run)(void *), void *argument) {
     pthread_attr_t attributes;
@@ -74,9 +96,9 @@ static size_t depth(void *(*run)(void *), void *argument) {
 
 static int failed;
 
-static void measure(const char *what, size_t most, uint64_t expected) {
+static void measure(const char *what, void *(*run)(void *), size_t most, uint64_t expected) {
     uint64_t answer = 0;
-    size_t own = depth(nothing, NULL), all = depth(read_it, &answer);
+    size_t own = depth(nothing, NULL), all = depth(run, &answer);
     size_t taken = all > own ? all - own : 0;
     printf("%s: %s\n", what, taken <= most && answer == expected ? "within" : "MORE, or another answer");
     fprintf(stderr, "%s: %zu bytes, at most %zu\n", what, taken, most);
@@ -86,14 +108,20 @@ static void measure(const char *what, size_t most, uint64_t expected) {
 int main(void) {
     file_len = 3;
     offset = 0;
-    measure("no section", 8 << 10, 0);
+    measure("no section", read_it, 8 << 10, 0);
     offset = 1;
-    measure("a section that is cut", 8 << 10, (uint64_t)3 << 32);
+    measure("a section that is cut", read_it, 8 << 10, (uint64_t)3 << 32);
     section(1000, 5, 1);
-    measure("rising callees", 8 << 10, 0);
+    measure("rising callees", read_it, 8 << 10, 0);
     section(3, 5, -1);
-    measure("three falling callees", 272 << 10, 0);
+    measure("three falling callees", read_it, 272 << 10, 0);
     section(ENTRIES, ENTRIES, -1);
-    measure("70,000 falling callees", 272 << 10, 0);
+    measure("70,000 falling callees", read_it, 272 << 10, 0);
+    headers(1000, 0, 1);
+    measure("rising large headers", check_it, 8 << 10, HBC_CLEAN);
+    file[0]++;
+    measure("rising large headers of which two share a byte", check_it, 272 << 10, HBC_RULE_LARGE_HEADERS);
+    headers(20000, 19999, -1);
+    measure("20,000 falling large headers", check_it, 272 << 10, HBC_CLEAN);
     return failed;
 }

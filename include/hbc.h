@@ -17,7 +17,7 @@
  *   refusal's number times 2^32, plus its place. HBC_NUMBER and HBC_PLACE take it apart. The place is 0 unless it is
  *   named below.
  * - A value is written only where the call is accepted; a refused call leaves the lent values (`*start`, `*size`,
- *   `*exact`, `*large` and `*sizes` among them), every word of the lent tables and every byte of a buffer as they were,
+ *   `*exact`, `*large`, `*sizes` and `*place` among them), every word of the lent tables and every byte of a buffer as they were,
  *   and the cursor too, unless it says otherwise below.
  * - Every call ends, on every input, and never reads or writes outside what is lent.
  * - Nothing is allocated, and no call has data of its own: calls on different tables and numbers may run in parallel,
@@ -34,10 +34,11 @@
  * 0.2.0 hbc_read_uleb128, hbc_read_sleb128, hbc_read_length_prefixed_string and hbc_read_debug have one parameter more,
  * the last, `exact`; since 0.3.0 there is hbc_string_text, since 0.4.0 hbc_why_no_handlers; since 0.5.0 a function's row
  * has 17 words where it had 16, so that a program that lends or reads such rows must be compiled again; since 0.6.0
- * hbc_read_functions and hbc_refresh_functions have two parameters more, the last, `large` and `sizes`. */
-#define HBC_VERSION "0.6.0"
+ * hbc_read_functions and hbc_refresh_functions have two parameters more, the last, `large` and `sizes`; since 0.7.0 there
+ * is hbc_check_bundle. */
+#define HBC_VERSION "0.7.0"
 #define HBC_VERSION_MAJOR 0
-#define HBC_VERSION_MINOR 6
+#define HBC_VERSION_MINOR 7
 #define HBC_VERSION_PATCH 0
 
 /* The refusal's number in an answer, 0 if it was accepted; and its place. */
@@ -486,6 +487,59 @@ uint64_t hbc_read_debug(const uint8_t *file, size_t file_len, uint32_t offset, u
                         uint32_t *scopes, size_t scopes_len, uint32_t *names, size_t names_len, uint32_t *callees,
                         size_t callees_len, size_t *string_count, size_t *scope_count, size_t *name_count,
                         size_t *callee_count, uint32_t *exact);
+
+/* ---- The clean-bundle profile ---- */
+
+/* Answers of hbc_check_bundle: clean, or the first broken rule, in the order in which they are looked at. A broken rule is
+ * an answer, not a refusal: HBC_NUMBER of it is 0. */
+#define HBC_CLEAN 0
+#define HBC_RULE_LARGE_HEADERS 1   /* large headers start at or after the table's end and share no bytes */
+#define HBC_RULE_KIND_RUNS 2       /* kind lengths add up to the string count, and no run is empty */
+#define HBC_RULE_STRINGS 3         /* each string is valid in Hermes mode */
+#define HBC_RULE_EMPTY_TAGS 4      /* no series passes a length-0 tag */
+#define HBC_RULE_LITERAL_STRINGS 5 /* each literal string number is below the string count */
+
+/* A row of `series`: 0 for the values, any other number for the keys, as of_keys of hbc_read_object; then where the
+ * series begins, and how many values are asked for. */
+#define HBC_SERIES_WORDS 3
+#define HBC_SERIES_OF_KEYS 0
+#define HBC_SERIES_OFFSET 1
+#define HBC_SERIES_COUNT 2
+
+/* Whether a file is tidy enough for release. What the readers accept and this does not is a broken rule; what they refuse
+ * is refused, and then no rule is looked at.
+ * `file`, `layout`, `start`, `count`: the table of headers, as hbc_read_functions takes it. `kinds`, `small`, `overflow`,
+ * `storage`: as hbc_decode_strings_hermes takes them; `strings` is its count, and the string count of the rules, also where
+ * fewer small entries are lent, which breaks no rule: lend them all. `keys`, `values`: the buffers, as hbc_read_object
+ * takes them. `series`: rows of HBC_SERIES_WORDS words; words that make no whole row are not looked at. Nothing is lent
+ * to be written but `place`.
+ *
+ * Accepted, the answer is HBC_CLEAN exactly if all five rules hold; else the first that does not, and `*place` is the
+ * lowest place where it does not:
+ * 1  the lowest function whose large header, of 31 bytes in legacy and 37 in modern, starts before the table's end (start
+ *    plus count headers) or shares a byte with that of any other function. Headers that touch share none.
+ * 2  the first run that is empty; or, if only the sum is wrong, the number of runs. A run's length is its low 31 bits.
+ * 3  the lowest string, of those that hbc_decode_strings_hermes decodes, whose row has 1 in its third word.
+ * 4  the lowest series with a length-0 tag before the last value asked for. One right behind that value is not passed, and
+ *    a series of no values passes none.
+ * 5  the lowest series that has, among the values asked for, a string number that is not below `strings`.
+ * A place from 4294967295 on is told as 4294967295. `*place` stays as it was where all is clean.
+ *
+ * Refused 12 if there is no such layout; then as hbc_read_functions with room for all rows: 1; 2 if `start` is past the
+ * end; 2 or 3 with the first function that can't be read as place; as hbc_decode_strings_hermes with room for all rows: 1
+ * if the storage is longer than HBC_LIMIT; 8 with the first string as place whose pair is not there; and as
+ * hbc_read_object with room for all values, series by series: 1 if its buffer is longer than HBC_LIMIT; 7; 3 with the number
+ * of whole values before that as place, not the number of the series. `*place` stays then too.
+ * Takes at most 8 KiB of stack where large headers rise, the first at or behind the table's end and each at or behind
+ * the end of the one before it, else at most 272 KiB. Then the functions are gone through once more for each 65,535 large
+ * headers that the file has room for behind the table, or until function 0 is found to break rule 1. Each series is gone
+ * through by itself, from its offset to its last value, over all tags of length 0 on the way: n rows that name the same bytes take
+ * n times as long as one. */
+uint64_t hbc_check_bundle(const uint8_t *file, size_t file_len, uint32_t layout, size_t start, uint32_t count,
+                          const uint32_t *kinds, size_t kinds_len, uint32_t strings, const uint32_t *small,
+                          size_t small_len, const uint32_t *overflow, size_t overflow_len, const uint8_t *storage,
+                          size_t storage_len, const uint8_t *keys, size_t keys_len, const uint8_t *values,
+                          size_t values_len, const uint32_t *series, size_t series_len, uint32_t *place);
 
 #ifdef __cplusplus
 }

@@ -93,6 +93,9 @@ use Rattle.hbc_claims_debug.proofs.DebugRows as debug-rows
 use Rattle.hbc_claims_debug.proofs.Left as r-debug
 use Rattle.hbc_claims_debug.proofs.Marks as marks
 use Rattle.hbc_claims_debug.proofs.Unique as u-debug
+use Rattle.hbc_claims_clean.proofs.Cases as bundles
+use Rattle.hbc_claims_clean.proofs.Judging as bundle-judging
+use Rattle.hbc_claims_clean.proofs.Unique as u-clean
 use Rattle.hbc_claims_c.proofs.Left as r-c
 use Rattle.hbc_claims_c.proofs.Why as c-whys
 use Rattle.hbc_claims_c.proofs.Unique as u-c
@@ -111,6 +114,7 @@ unique = record {
   literals = u-buffer.unique;
   handlers = u-parsing.unique;
   debug = u-debug.unique;
+  bundles = u-clean.unique;
   listing = u-listing.unique;
   records = u-records.unique;
   exported = u-c.unique;
@@ -283,6 +287,8 @@ counted-left s r h = record {
   hbc-read-series = λ offset count ks ps. r-c.hbc-series s offset count ks ps h;
   hbc-read-object = λ keys values n offset count ks ps. r-c.hbc-object keys values n offset count ks ps h;
   hbc-trailing-sections = λ start regexps storage cjs given sources t. r-c.hbc-sections s start regexps storage cjs given sources t h;
+  hbc-check-bundle = λ l start count kinds strings small overflow storage keys values series place.
+      r-c.hbc-bundle l s start count kinds strings small overflow storage keys values series place h;
 }
 
 exact : (bs : List ℕ) → Exact bs
@@ -407,6 +413,7 @@ writes v = record { back = written.reads-back v; header = written.headed v; kept
 pub theorems : Theorems
 theorems = record {
   worked = hold;
+  worked-bundles = bundles.hold;
   unique = unique;
   reader = reader;
   as-fresh = λ a b layout start count low high t t₀ t₁ t₂ t₃ r q v f g. as-fresh v f g;
@@ -463,4 +470,5 @@ theorems = record {
   as-one = as-one;
   both-fresh = both-fresh;
   mended = mended;
+  judged = bundle-judging.judges;
 }

@@ -1,4 +1,4 @@
--- docs/FORMAT.md, section 1.6, each part naming its own: every theorem on calls in full: the words in fourteen sections, and at the end the theorems
+-- docs/FORMAT.md, section 1.6, each part naming its own: every theorem on calls in full: the words in fifteen sections, and at the end the theorems
 -- themselves, in one record, under the names in brackets; proofs/Proved proves them. The promises that they speak of (`ReadFunctions`, ..) are what the
 -- calls' contracts cite (docs/PROMISES.md), the terms are those of hbc_claims_law/specs/Terms. n is a cursor as a call leaves it, t′ a table. A
 -- `Table` of functions has the words of its rows, and beside them two totals.
@@ -148,6 +148,12 @@ use Rattle.hbc_claims_debug.specs.Callees.{CalleesRead}
 use Rattle.hbc_claims_debug.specs.Left.{PastRows}
 use Rattle.hbc_claims_debug.specs.Marks.{Told}
 use Rattle.hbc_claims_debug.specs.Unique as u-debug
+use Rattle.hbc_clean.specs.declared.Bundle.{Bundle}
+use Rattle.hbc_clean.specs.Bundle.{Given, saysBundle, checkBundle}
+use Rattle.hbc_claims_clean.specs.Bundle.{Judges}
+use Rattle.hbc_claims_clean.specs.Cases as bundles
+use Rattle.hbc_claims_clean.specs.Unique as u-clean
+use Rattle.hbc_c_clean.specs.Clean.{ToldBundle}
 use Rattle.hbc_claims_c.specs.Unique as u-c
 use Rattle.hbc_claims_c.specs.Why.{WhyTold}
 use Rattle.hbc_claims.specs.Cases.{cases}
@@ -155,7 +161,7 @@ use Rattle.hbc_claims.specs.Unique as u-listing
 use Rattle.hbc_claims.specs.Records as u-records
 
 -- ==== 1. The worked cases: P1 to P10, W1 to W5, H1 and H2, T1 to T8, Y1 to Y8, S1 to S7, R1 to R9 of docs/FORMAT.md, section 10, each stated in Cases,
--- one list (`worked`)
+-- one list (`worked`); K1 to K9 in that of hbc_claims_clean (`worked-bundles`)
 -- ==== 2. Uniqueness (`unique`) of every public call, by layers, and of every exported one: two outcomes that both meet its contract, as the checker has it,
 -- are equal: the answer, and every word or number that was lent to it; each by the one law of hbc_claims_law, what equals one thing is one thing
 pub record Unique : Type 0 where
@@ -167,6 +173,7 @@ pub record Unique : Type 0 where
   pub literals : u-buffer.Unique
   pub handlers : u-parsing.Unique
   pub debug : u-debug.Unique
+  pub bundles : u-clean.Unique
   pub listing : u-listing.Unique
   pub records : u-records.Unique
   pub exported : u-c.Unique
@@ -335,6 +342,9 @@ pub record CountedLeft (s : List ℕ) (r : ℕ) : Type 0 where
       → (ks′ ≡ ks) × (ps′ ≡ ps)
   pub hbc-trailing-sections : (start regexps storage cjs : ℕ) (given : Bool) (sources : ℕ) (t : List ℕ) {t′ : List ℕ}
       → ToldSections s start regexps storage cjs given sources t r t′ → t′ ≡ t
+  -- the word for the place
+  pub hbc-check-bundle : (l start count : ℕ) (kinds : List ℕ) (strings : ℕ) (small overflow storage keys values series : List ℕ) (place : ℕ) {place′ : ℕ}
+      → ToldBundle s l start count kinds strings small overflow storage keys values series place r place′ → place′ ≡ place
 
 -- ==== 5. LEB128 (`exact`): the answer is the number that DWARF has for the bytes exactly when that fits 64 bits, and exactly when its mark is true
 pub record Exact (bs : List ℕ) : Type 0 where
@@ -629,9 +639,22 @@ pub record BothFresh (r : Reading) (t₂ : Table) (a ab b ba : Result) : Type 0 
 -- or puts them back, so that s′ is as long as s and the same outside that span, and has its span refreshed with s′. That is as a fresh read of s′ is, in
 -- answer and table (`mended`; `AsFresh` of section 3)
 
+-- ==== 15. The clean-bundle profile (docs/FORMAT.md, section 12): of headers, kinds, strings and literal series, which are given, check_bundle answers so
+-- (`judged`, hbc_claims_clean/specs/Bundle; the five rules, and what breaks each at a place, are written out in hbc_claims_clean/specs/Rules, large headers
+-- by the bytes that they have in common, and in no word of how they are looked for):
+-- clean exactly when all five rules hold and nothing is refused (`CleanExactly`): large headers start at or after the table's end, and no byte is in two of
+-- them; no run is empty, and their lengths add up to the string count; each string that is decoded is valid in Hermes mode; on the way to no value that a
+-- series is asked for stands a tag without values; each such value that is a string has a number below the string count
+-- a rule k at a place (`BrokenTruly`): k is one of 1 to 5, the place breaks it, no lower place does, every rule before it holds, and nothing is refused. The
+-- place of rule 1 is a function whose large header starts before the table's end or has a byte in common with that of any other; of rule 2 a run, or the
+-- number of runs
+-- a refusal (`RefusedFirst`): it is the reader's own, with its number and place, whatever room that is lent if it is enough: that of the headers; else of the
+-- strings in Hermes mode; else of the first series that is refused
+
 -- ==== The theorems
 pub record Theorems : Type 2 where
   pub worked : All cases
+  pub worked-bundles : All bundles.cases
   pub unique : Unique
   pub reader : {M : Type 1} (𝓤 : URA M) (H : Heap 𝓤) (A : Atoms 𝓤) (mem : Memory → SProp 𝓤) (run : Routine → Fun 𝓤) → Reader 𝓤 H A mem run
   pub as-fresh : (a b : List ℕ) (layout : Layout) (start count low high : ℕ) (t t₀ t₁ t₂ t₃ : Table) (r : Reading) (q : Refreshed)
@@ -735,3 +758,4 @@ pub record Theorems : Type 2 where
       → Sound s count t → EditedTwice o s layout start count low₁ high₁ low₂ high₂ t₀ t₁ t
       → RefreshFunctions s layout start count low₂ high₂ t (refreshed.Done k) u → Same s s′ low₁ high₁ → ((i : ℕ) → getD s′ i 0 < 256)
       → ReadFunctions s′ layout start count t₀ r t₂ → RefreshFunctions s′ layout start count low₁ high₁ u q t₃ → AsFresh r q u t₂ t₃
+  pub judged : (g : Given) (r : Bundle) → saysBundle r ≡ checkBundle g → Judges g r

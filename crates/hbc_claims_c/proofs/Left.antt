@@ -68,6 +68,11 @@ use Rattle.hbc_claims_table.proofs.Strings.{decoded-count}
 use Rattle.hbc_claims_text.proofs.Row.{of-row, puts-row}
 use Rattle.hbc_text.specs.StringText.{stringText}
 use Rattle.hbc_c_text.specs.Text.{ToldText}
+use Rattle.hbc_clean.specs.declared.Bundle.{Bundle}
+use Rattle.hbc_clean.specs.declared.Bundle.the-variants as bundle
+use Rattle.hbc_clean.specs.Bundle.{Given, given, saysBundle, checkBundle}
+use Rattle.hbc_claims_clean.proofs.Judging.{judges}
+use Rattle.hbc_c_clean.specs.Clean.{ruleOf, placeLeft, BundleTold, ToldBundle}
 use Rattle.hbc_claims_buffer.proofs.Refused.{literal-left}
 use Rattle.hbc_claims_buffer.proofs.Used.{used-small}
 
@@ -311,3 +316,19 @@ pub hbc-sections : (s : List ℕ) (start regexps storage cjs : ℕ) (given : Boo
     → ToldSections s start regexps storage cjs given sources before r after → after ≡ before
 hbc-sections s start regexps storage cjs given sources before h v =
     v .leaves ∙ sections-kept (sectionsAnswer s start regexps storage cjs given sources (rows sectionWidth before)) before (rw (← v .says) h)
+
+-- ---- the clean-bundle profile
+
+module _ (g : Given) {before r after : ℕ} (big : 4294967296 ≤ r) where
+  bundle-by : (b : Bundle) → saysBundle b ≡ checkBundle g → r ≡ codeIn ruleOf (saysBundle b) → after ≡ placeLeft (saysBundle b) before → after ≡ before
+  bundle-by bundle.Clean e d f = f
+  bundle-by (bundle.Broken k p) e d f = let z = judges g (bundle.Broken k p) e .broken k p refl .number .1 in absurd (omega (arith, z, d, big))
+  bundle-by (bundle.Refused x) e d f = f
+
+  bundle-told : BundleTold g before r after → after ≡ before
+  bundle-told t = bundle-by (t .answer) (t .promised .is) (t .says) (t .promised .left)
+
+pub hbc-bundle : (l : ℕ) (s : List ℕ) (start count : ℕ) (kinds : List ℕ) (strings : ℕ) (small overflow storage keys values series : List ℕ) (place : ℕ) {r place′ : ℕ}
+    → 4294967296 ≤ r → ToldBundle s l start count kinds strings small overflow storage keys values series place r place′ → place′ ≡ place
+hbc-bundle l s start count kinds strings small overflow storage keys values series place h t =
+    by-layout (λ layout. bundle-told (given s layout start count kinds strings small overflow storage keys values series) h) (λ m. m .1) t

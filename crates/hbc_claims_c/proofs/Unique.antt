@@ -1,8 +1,9 @@
 -- Each exported call leaves one outcome: what the call behind it leaves is one, and so is its number.
 use Prim.Native.Nat.{ℕ}
-use mathlib.Core.Path.{_≡_, refl}
+use mathlib.Core.Path.{_≡_, refl, sym, ap, _∙_}
 use mathlib.Core.Bool.{Bool}
 use Rattle.hbc_io.specs.Outcome.{Outcome}
+use Rattle.hbc_io.specs.Answer.{Answer}
 use Rattle.hbc_io.specs.declared.Span.{Span}
 use Rattle.hbc_io.proofs.Exits.{alone}
 use Rattle.hbc_io.proofs.Alone.{oneMoved}
@@ -17,6 +18,10 @@ use Rattle.hbc_text_forms.proofs.Alone.{oneText}
 use Rattle.hbc_claims_buffer.proofs.Unique.{oneSeries, both}
 use Rattle.hbc_claims_parsing.proofs.Unique.{oneListed}
 use Rattle.hbc_debug.proofs.Alone.{oneDebugged}
+use Rattle.hbc_clean.specs.declared.Bundle.{Bundle}
+use Rattle.hbc_clean.specs.Bundle.{Given, Verdict}
+use Rattle.hbc_c_clean.specs.Clean.{Placed, placeLeft}
+use Rattle.hbc_claims_clean.proofs.Unique.{oneBundle}
 use Rattle.hbc_claims_c.specs.Unique.{Unique}
 
 module _ {A : Type 0} {o : Outcome A} {r q at at′ : ℕ} where
@@ -37,6 +42,11 @@ module _ {marks : Outcome Bool} {exact₀ x y : ℕ} where
   leb-one : {A : Type 0} {o : Outcome A} {before v w : A} {r q at at′ : ℕ} → Marked (Reads o before r at v) marks exact₀ x
       → Marked (Reads o before q at′ w) marks exact₀ y → (r ≡ q) × (at ≡ at′) × (v ≡ w) × (x ≡ y)
   leb-one e f = let m = read-one (e .promised) (f .promised) in (m .0, m .1, m .2, mark-one e f)
+
+one-placed : {g : Given} {before after later : ℕ} (a b : Bundle) → Placed g before a after → Placed g before b later → (a ≡ b) × (after ≡ later)
+one-placed {before = before} a b p q =
+    let e = p .is ∙ sym (q .is) in
+    (oneBundle a b e, p .left ∙ ap (λ (x : Answer Verdict). placeLeft x before) e ∙ sym (q .left))
 
 pub unique : Unique
 unique = record {
@@ -79,4 +89,5 @@ unique = record {
   hbc_why_no_handlers = λ k a r q s u e f. (same (e .says) (f .says), same (e .leaves) (f .leaves));
   hbc_trailing_sections = λ k a r q s u e f. (same (e .says) (f .says), same (e .leaves) (f .leaves));
   hbc_read_debug = λ k a r q s u. told.value-alone (λ x y. alone oneDebugged);
+  hbc_check_bundle = λ k a r q s u. alone-by (λ l. told.alone one-placed);
 }

@@ -41,6 +41,7 @@ use Rattle.hbc_c.proofs.parsing.hbc_read_handlers.Reads as of-read-handlers
 use Rattle.hbc_c.proofs.parsing.hbc_why_no_handlers.Reads as of-why-no-handlers
 use Rattle.hbc_c.proofs.parsing.hbc_trailing_sections.Reads as of-trailing-sections
 use Rattle.hbc_c.proofs.debug.hbc_read_debug.Reads as of-read-debug
+use Rattle.hbc_c.proofs.clean.hbc_check_bundle.Reads as of-check-bundle
 
 -- the calls by name
 pub record Unique : Type 0 where
@@ -89,3 +90,4 @@ pub record Unique : Type 0 where
       (λ s. tables (now (s .1 .1 .0)) (now (s .1 .1 .1 .0)) (now (s .1 .1 .1 .1 .0)) (now (s .1 .1 .1 .1 .1 .0)))
       (λ s. lent (counts (now (s .1 .1 .1 .1 .1 .1 .0)) (now (s .1 .1 .1 .1 .1 .1 .1 .0)) (now (s .1 .1 .1 .1 .1 .1 .1 .1 .0))
       (now (s .1 .1 .1 .1 .1 .1 .1 .1 .1 .0))) (now (s .1 .1 .1 .1 .1 .1 .1 .1 .1 .1 .0)))
+  pub hbc_check_bundle : Both of-check-bundle.Learnt (λ s. now (s .1 .1 .1 .1 .1 .1 .1 .1 .1 .1 .1 .1 .0))

@@ -14,6 +14,7 @@ unique = record {
   read_u32_table = λ k a r q s u. alone oneMoved;
   read_pair_table = λ k a r q s u. alone oneMoved;
   decode_strings = λ k a r q s u. alone oneDecoded;
+  judge_entry = λ k a r q s u. same;
   string_span = λ k a r q s u. same;
   string_bytes = λ k a r q s u. onePart;
 }

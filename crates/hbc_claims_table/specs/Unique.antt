@@ -7,6 +7,7 @@ use Rattle.hbc_rows.proofs.put_words.Reads as of-put-words
 use Rattle.hbc_table.proofs.read_u32_table.Reads as of-read-u32-table
 use Rattle.hbc_table.proofs.read_pair_table.Reads as of-read-pair-table
 use Rattle.hbc_table_strings.proofs.decode_strings.Reads as of-decode-strings
+use Rattle.hbc_table_strings.proofs.judge_entry.Reads as of-judge-entry
 use Rattle.hbc_table_bytes.proofs.string_span.Reads as of-string-span
 use Rattle.hbc_table_bytes.proofs.string_bytes.Reads as of-string-bytes
 use Rattle.hbc_claims_law.specs.Law.{One, OnePart, Words, Both}
@@ -20,5 +21,6 @@ pub record Unique : Type 0 where
   pub read_u32_table : Both of-read-u32-table.Learnt (λ s. now (s .1 .1 .1 .0))
   pub read_pair_table : Both of-read-pair-table.Learnt (λ s. now (s .1 .1 .1 .0))
   pub decode_strings : Both of-decode-strings.Learnt (λ s. now (s .1 .1 .1 .1 .1 .1 .0))
+  pub judge_entry : One of-judge-entry.Learnt
   pub string_span : One of-string-span.Learnt
   pub string_bytes : OnePart of-string-bytes.Learnt

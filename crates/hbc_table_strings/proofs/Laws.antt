@@ -1,5 +1,5 @@
 -- The laws that the loops cite.
-use Prim.Native.Nat.{ℕ, suc, _+_, _-_, _*_, _^_, _≤_, _<_}
+use Prim.Native.Nat.{ℕ, suc, _+_, _-_, _*_, _/_, _^_, _≤_, _<_}
 use mathlib.Core.Path.{_≡_, refl, ap, sym, _∙_}
 use mathlib.Core.List.{List}
 use mathlib.Core.Bool.{Bool, true, false, cond}
@@ -7,7 +7,7 @@ use native.Mathlib.Omega.{arith}
 use native.Mathlib.Numerals.{add-one}
 use native.Mathlib.Decide.{le-ind}
 use lib.ListN.{length}
-use lib.Dec.{leb, eqb}
+use lib.Dec.{ltb, leb, eqb}
 use borrow.Author.Tests.{eq-eqb, ne-eqb, lt-ltb, le-ltb}
 use Rattle.hbc_io.specs.declared.Refusal.{Refusal}
 use Rattle.hbc_io.specs.Answer.{gives, refuses, refusedAt, andThen}
@@ -17,13 +17,14 @@ use Rattle.hbc_rows.proofs.Laws.{test-eq}
 use Rattle.hbc_rows.proofs.RowsAt.{rows-first, rows-length}
 use Rattle.hbc_table_strings.specs.declared.Mode.{Mode}
 use Rattle.hbc_table_strings.specs.declared.Mode.the-variants.{InOrder, Hermes}
+use Rattle.hbc_table_strings.specs.declared.entries.Entry.{Entry}
 use Rattle.hbc_table_strings.specs.declared.kinds.Held.{Held}
 use Rattle.hbc_table_strings.specs.declared.row.StringRow.{StringRow}
 use Rattle.hbc_table_strings.specs.Kinds.{holding, movedOn, spent, heldAt, kindOf, runKind}
 use Rattle.hbc_table_strings.specs.Hermes.{kindIn}
-use Rattle.hbc_table_strings.specs.Entries.{offsetOf, longOne, pairsTaken, pairTaken, pairOf, lacksPair}
-use Rattle.hbc_table_strings.specs.Row.{stringWidth, stringWords, rowWith, rowOf}
-use Rattle.hbc_table_strings.specs.Strings.{scan, wordsOf, decodedRows}
+use Rattle.hbc_table_strings.specs.Entries.{utf16, offsetOf, longOne, pairsTaken, pairTaken, pairOf, lacksPair, entryOf, bytesOf}
+use Rattle.hbc_table_strings.specs.Row.{stringWidth, stringWords, rowFor, rowWith, rowOf}
+use Rattle.hbc_table_strings.specs.Strings.{scan, wordsOf, decodedRows, judged}
 use Rattle.hbc_table_strings.specs.Private.{nextFull, passedOn, movedIn}
 use Rattle.hbc_table_strings.proofs.Runs.{HeldRightly, by-first, by-passed, by-kind, by-spent, passed-far}
 
@@ -190,3 +191,51 @@ module _ {mode : Mode} {kinds small overflow : List ℕ} {storage i : ℕ} {held
 
   pub written-done : {m : ℕ} → i ≡ m → t ≡ decodedRows mode kinds small overflow storage m t₀
   written-done h = rw (← h) (v .is)
+
+-- ---- one entry by itself
+
+-- what stands in a row besides the marks does not go by them
+marks-free : (start bytes m k storage : ℕ) (a b : Bool) → ltb start storage ≡ a → leb (start + bytes) storage ≡ b
+    → rowFor start bytes m storage .invalid ≡ rowFor start bytes k storage .invalid
+unfolding rowFor
+marks-free start bytes m k storage true true e f = rw (e, f)
+marks-free start bytes m k storage true false e f = rw (e, f)
+marks-free start bytes m k storage false b e f = rw e
+
+-- a kind has no say in whether a string is valid
+pub kind-free : (raw k j : ℕ) (overflow : List ℕ) (p storage : ℕ) → rowWith raw k overflow p storage .invalid ≡ rowWith raw j overflow p storage .invalid
+unfolding rowWith
+kind-free raw k j overflow p storage =
+    marks-free (entryOf raw overflow p .start) (bytesOf raw (entryOf raw overflow p .units)) (utf16 raw + 2 * k) (utf16 raw + 2 * j) storage
+    (ltb (entryOf raw overflow p .start) storage) (leb (entryOf raw overflow p .start + bytesOf raw (entryOf raw overflow p .units)) storage) refl refl
+
+bit-by : (start bytes m storage : ℕ) (a b : Bool) → ltb start storage ≡ a → leb (start + bytes) storage ≡ b → rowFor start bytes m storage .invalid < 2
+unfolding rowFor
+bit-by start bytes m storage true true e f = rw (e, f) (omega arith)
+bit-by start bytes m storage true false e f = rw (e, f) (omega arith)
+bit-by start bytes m storage false b e f = rw e (omega arith)
+
+-- valid or invalid: 0 or 1
+pub bit : (raw k : ℕ) (overflow : List ℕ) (p storage : ℕ) → rowWith raw k overflow p storage .invalid < 2
+unfolding rowWith
+bit raw k overflow p storage =
+    bit-by (entryOf raw overflow p .start) (bytesOf raw (entryOf raw overflow p .units)) (utf16 raw + 2 * k) storage
+    (ltb (entryOf raw overflow p .start) storage) (leb (entryOf raw overflow p .start + bytesOf raw (entryOf raw overflow p .units)) storage) refl refl
+
+pub row-bit : (kinds small overflow : List ℕ) (storage i : ℕ) → rowOf Hermes kinds small overflow storage i .invalid < 2
+unfolding rowOf
+row-bit kinds small overflow storage i = bit (entryAt small i) (kindIn Hermes kinds i) overflow (pairOf Hermes small i) storage
+
+module _ (raw : ℕ) (overflow : List ℕ) (storage : ℕ) {b : Bool} (lacks : b ≡ lacksPair raw (offsetOf raw) (length overflow / 2)) where
+  pub judged-lacking : b ≡ true → 2 ≡ judged raw overflow storage
+  unfolding judged
+  judged-lacking e = rw (← lacks, e) refl
+
+  pub judged-there : b ≡ false → {x : Entry} → x ≡ entryOf raw overflow (offsetOf raw) → {n r : ℕ} → n ≡ bytesOf raw (x .units) → r ≡ rowFor (x .start) n 0 storage .invalid
+      → r ≡ judged raw overflow storage
+  unfolding judged rowWith
+  judged-there e {x} i {n} {r} m o =
+      let z = rw (m, i) at o in
+      rw (← lacks, e) (z ∙ marks-free (entryOf raw overflow (offsetOf raw) .start) (bytesOf raw (entryOf raw overflow (offsetOf raw) .units)) 0 (utf16 raw + 2 * 0) storage
+      (ltb (entryOf raw overflow (offsetOf raw) .start) storage)
+      (leb (entryOf raw overflow (offsetOf raw) .start + bytesOf raw (entryOf raw overflow (offsetOf raw) .units)) storage) refl refl)

@@ -11,8 +11,8 @@ use Rattle.hbc_rows.specs.Rows.{entryAt, rows, putRows}
 use Rattle.hbc_table_strings.specs.declared.Decoded.{Decoded}
 use Rattle.hbc_table_strings.specs.declared.Decoded.the-variants.{Rows, Refused}
 use Rattle.hbc_table_strings.specs.declared.Mode.{Mode}
-use Rattle.hbc_table_strings.specs.Entries.{pairOf, lacksPair}
-use Rattle.hbc_table_strings.specs.Row.{stringWords, stringWidth, rowOf}
+use Rattle.hbc_table_strings.specs.Entries.{offsetOf, pairOf, lacksPair}
+use Rattle.hbc_table_strings.specs.Row.{stringWords, stringWidth, rowWith, rowOf}
 
 -- how many rows, or the refusal
 abbrev pub saysDecoded : Decoded → Answer ℕ
@@ -49,3 +49,9 @@ abbrev pub DecodeStrings : Mode → ℕ → List ℕ → List ℕ → List ℕ �
 DecodeStrings mode count kinds small overflow storage before =
     Lends saysDecoded (decodeAnswer mode count small overflow storage before)
     (decodedRows mode kinds small overflow (length storage) (lesser count (length small)) before) before
+
+-- ---- one small entry by itself, in Hermes mode: no other string has a say in it, nor has its kind
+
+-- 2 where its pair is not there; else 0 valid or 1 invalid, as in its row
+unfoldable pub judged : ℕ → List ℕ → ℕ → ℕ
+judged raw overflow storage = cond (lacksPair raw (offsetOf raw) (length overflow / 2)) 2 (rowWith raw 0 overflow (offsetOf raw) storage .invalid)

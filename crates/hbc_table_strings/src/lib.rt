@@ -2,12 +2,15 @@
 // What a mode decides: how a string comes by its kind (`moved_on`, kinds.rt), and which pair a long one takes (`pair_taken`, entries.rt).
 ghost use mathlib.Core.Path.{_≡_};
 ghost use Prim.Native.Nat.{_≤_, _<_, _^_};
-ghost use Rattle.hbc_table_strings.specs.Strings.{saysDecoded, scan, decodedRows, lesser, DecodeStrings};
+ghost use Rattle.hbc_table_strings.specs.Strings.{saysDecoded, scan, decodedRows, lesser, DecodeStrings, judged};
+ghost use Rattle.hbc_table_strings.specs.Row.{rowFor};
 
 mod entries;
 mod kinds;
 mod row;
 
+use crate::entries::bytes_of;
+use crate::entries::entry_of;
 use crate::entries::lacks_pair;
 use crate::entries::long_one;
 use crate::kinds::holding;
@@ -123,4 +126,29 @@ pub fn decode_strings(
         write(mode, n, kinds, small, overflow, storage.len(), rows);
     }
     found
+}
+
+// Whether a string lies in the storage, by where it starts and its bytes: 0 valid, 1 not.
+fn outside(start: u32, bytes: usize, storage: usize) -> u32
+    requires { ⌜ bytes < 2 ^ 33 ⌝ }
+    ensures { λ r. ⌜ r ≡ rowFor start bytes 0 storage .invalid ⌝ }
+{
+    let from = start as usize;
+    if from < storage {
+        if from + bytes <= storage {
+            return 0;
+        }
+    }
+    1
+}
+
+// One small entry by itself in Hermes mode: 0 valid, 1 invalid, 2 where its pair is not there.
+pub fn judge_entry(raw: u32, overflow: &[u32], storage: usize) -> u32
+    ensures { λ r. ⌜ r ≡ judged raw (now (overflow .entry)) storage ⌝ }
+{
+    if lacks_pair(Mode::Hermes, raw, 0, overflow.len() / 2) {
+        return 2;
+    }
+    let e = entry_of(Mode::Hermes, raw, overflow, 0);
+    outside(e.start, bytes_of(raw, e.units), storage)
 }

@@ -1,6 +1,7 @@
-// Replays recorded answers of the published Rust from standard input (docs/RECORDS.md has the form of a record): the calls of strings, of literals and of
-// debug data. Makes each call, and says for each group how many records there are and how many were answered otherwise.
+// Replays recorded answers of the published Rust from standard input (docs/RECORDS.md has the form of a record): the calls of strings, of literals, of debug
+// data and of bundles. Makes each call, and says for each group how many records there are and how many were answered otherwise.
 mod buffer;
+mod clean;
 mod debug;
 mod table;
 
@@ -29,6 +30,7 @@ fn judge(record: &[u8], n: Asked) -> bool {
         24 => buffer::read_series(record, s, n),
         25 => buffer::read_object(record, s, n),
         28 => debug::read_debug(record, s, n),
+        35 => clean::check_bundle(record, s, n),
         _ => false,
     }
 }

@@ -7,6 +7,8 @@ mod buffer;
 #[cfg(published)]
 mod callees;
 #[cfg(published)]
+mod clean;
+#[cfg(published)]
 mod debug;
 #[cfg(any(published, test))]
 mod floors;
@@ -38,6 +40,7 @@ fn main() -> ExitCode {
         ("parsing", parsing::rows),
         ("debug", debug::rows),
         ("callees", callees::rows),
+        ("clean", clean::rows),
         ("worst", worst::rows),
     ])
 }

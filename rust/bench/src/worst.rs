@@ -2,6 +2,7 @@
 //! don't rise have a table of their own.
 
 mod buffer;
+mod clean;
 mod debug;
 mod function;
 mod io;
@@ -29,6 +30,7 @@ pub fn rows(bench: &Bench) {
     function::rows(bench);
     parsing::rows(bench);
     debug::rows(bench);
+    clean::rows(bench);
 }
 
 /// Times a call on the input that `make` makes of so many entries: what must be answered, and the call, to be made

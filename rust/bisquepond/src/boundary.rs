@@ -11,6 +11,7 @@ use alloc::string::String;
 use alloc::vec::Vec;
 use core::str;
 
+use crate::clean::Bundle;
 use crate::function::Totals;
 use crate::io::Marked;
 use crate::refusal::{Place, Refusal, Result};
@@ -119,6 +120,9 @@ rows! {
     /// One callee of the debug section.
     #[derive(Default)]
     CalleeRow 2
+    /// One series of literals: of which buffer, from where, and how many values. Zeros are no values, and pass anywhere.
+    #[derive(Default)]
+    SeriesRow 3
 }
 
 // SAFETY of every call below: see the head of this file.
@@ -557,4 +561,37 @@ pub(crate) fn read_debug(
         )
     };
     Refusal::check(code, Place::Nothing).map(|_| (counts, exact != 0))
+}
+
+/// The number of the broken rule and its place; both are 0 where the bundle is clean.
+pub(crate) fn check_bundle(bundle: &Bundle<'_>) -> Result<(u32, u32)> {
+    let (file, strings, objects) = (bundle.file, bundle.strings, bundle.objects);
+    let (overflow, series) = (strings.overflow.as_flattened(), words_of(bundle.series));
+    let mut place = 0;
+    let code = unsafe {
+        sys::hbc_check_bundle(
+            file.as_ptr(),
+            file.len(),
+            bundle.layout.into(),
+            bundle.start,
+            bundle.count,
+            strings.kinds.as_ptr(),
+            strings.kinds.len(),
+            bundle.string_count,
+            strings.small.as_ptr(),
+            strings.small.len(),
+            overflow.as_ptr(),
+            overflow.len(),
+            strings.storage.as_ptr(),
+            strings.storage.len(),
+            objects.keys.as_ptr(),
+            objects.keys.len(),
+            objects.values.as_ptr(),
+            objects.values.len(),
+            series.as_ptr(),
+            series.len(),
+            &mut place,
+        )
+    };
+    Refusal::check(code, Place::Nothing).map(|rule| (rule, place))
 }

@@ -1,6 +1,6 @@
 //! Reads the tables of Hermes bytecode (React Native's `.hbc`): functions, strings, literals, handlers, sections and
-//! debug data. Every answer is that of libhbc_c.a, whose functions are proved to meet their contracts on every input;
-//! this crate lends it slices and gives its numbers types. It has no dependencies.
+//! debug data; and says whether they are tidy. Every answer is that of libhbc_c.a, whose functions are proved to meet
+//! their contracts on every input; this crate lends it slices and gives its numbers types. It has no dependencies.
 //!
 //! ```
 //! use bisquepond::{Layout, Reason, function};
@@ -24,6 +24,7 @@
 //! | [`literal`] | literals, series of them, and the keys and values of objects |
 //! | [`parsing`] | exception handlers, why a function has none, and trailing sections |
 //! | [`debug`] | the debug section |
+//! | [`clean`] | whether headers, kinds, strings and literals are tidy, or the first rule that they break |
 //! | [`sys`] | the C calls themselves |
 //!
 //! Each call that fills rows or bytes has two forms: one ending in `_into` fills what is lent and allocates nothing, the
@@ -49,6 +50,7 @@ extern crate alloc;
 #[macro_use]
 mod rows;
 mod boundary;
+pub mod clean;
 pub mod debug;
 pub mod function;
 pub mod io;

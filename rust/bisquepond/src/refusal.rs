@@ -187,6 +187,11 @@ impl Refusal {
         }
     }
 
+    /// The same of a call that makes several reads: its place counts what that of one of them does.
+    pub(crate) const fn counting(self, of: Place) -> Refusal {
+        Refusal { of, ..self }
+    }
+
     /// Its name.
     ///
     /// ```

@@ -73,4 +73,6 @@ unsafe extern "C" {
     pub fn hbc_trailing_sections(file: *const u8, file_len: usize, start: usize, regexps: u32, storage: u32, cjs: u32, with_sources: bool, sources: u32, rows: *mut u32, rows_len: usize) -> u64;
 
     pub fn hbc_read_debug(file: *const u8, file_len: usize, offset: u32, strings: *mut u32, strings_len: usize, scopes: *mut u32, scopes_len: usize, names: *mut u32, names_len: usize, callees: *mut u32, callees_len: usize, string_count: *mut usize, scope_count: *mut usize, name_count: *mut usize, callee_count: *mut usize, exact: *mut u32) -> u64;
+
+    pub fn hbc_check_bundle(file: *const u8, file_len: usize, layout: u32, start: usize, count: u32, kinds: *const u32, kinds_len: usize, strings: u32, small: *const u32, small_len: usize, overflow: *const u32, overflow_len: usize, storage: *const u8, storage_len: usize, keys: *const u8, keys_len: usize, values: *const u8, values_len: usize, series: *const u32, series_len: usize, place: *mut u32) -> u64;
 }

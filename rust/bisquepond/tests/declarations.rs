@@ -6,6 +6,7 @@ use std::collections::{BTreeMap, BTreeSet};
 use std::fs;
 use std::path::{Path, PathBuf};
 
+use bisquepond::clean::{Rule, SeriesRow};
 use bisquepond::function::FunctionRow;
 use bisquepond::parsing::Why;
 use bisquepond::{Layout, Reason, Row, debug, function, parsing, sys, table};
@@ -234,6 +235,21 @@ fn answers_why_have_the_same_names() {
     assert!(all.iter().map(|why| why.number()).eq(0..8));
 }
 
+/// Every rule that the header names is one of the same name and number here, and the other way round; and no rule is 0.
+#[test]
+fn rules_have_the_same_names() {
+    let c = constants();
+    let in_c: BTreeMap<String, u32> = c
+        .iter()
+        .filter_map(|(name, &number)| Some((name.strip_prefix("RULE_")?.to_string(), number)))
+        .collect();
+    let here = Rule::ALL.iter();
+    let here = here.map(|rule| (upper(&format!("{rule:?}")), rule.number()));
+    assert_eq!(in_c, here.collect());
+    assert!(Rule::ALL.iter().map(|rule| rule.number()).eq(1..=5));
+    assert_eq!(c["CLEAN"], 0);
+}
+
 /// A row of these words, counting from 0: each is the word of its own number.
 fn counting<R: Row>() -> R {
     let words: Vec<u32> = (0..R::WORDS as u32).collect();
@@ -261,6 +277,7 @@ fn words_and_numbers_have_the_same_names() {
         ("SCOPE", debug::ScopeRow::WORDS),
         ("NAME", debug::NameRow::WORDS),
         ("CALLEE", debug::CalleeRow::WORDS),
+        ("SERIES", SeriesRow::WORDS),
     ] {
         assert_eq!(c[&format!("{name}_WORDS")] as usize, words, "{name}");
     }
@@ -334,6 +351,14 @@ fn words_and_numbers_have_the_same_names() {
         (c["CALLEE_ADDRESS"], c["CALLEE_STRING"]),
         (row.address(), row.string())
     );
+    let row: SeriesRow = counting();
+    assert_eq!(
+        (c["SERIES_OFFSET"], c["SERIES_COUNT"]),
+        (row.offset(), row.count())
+    );
+    let mut words = [0; 3];
+    words[c["SERIES_OF_KEYS"] as usize] = 1;
+    assert!(SeriesRow::rows(&words)[0].is_of_keys() && !row.is_of_keys());
     for (name, flag) in [
         ("STRICT", function::FLAG_STRICT),
         (
@@ -384,7 +409,7 @@ fn every_call_says_for_what_it_is_refused() {
         all += calls;
     }
     // Those of macros are counted once.
-    assert!(all >= 22, "{all}");
+    assert!(all >= 23, "{all}");
     // And it sees one that does not.
     let silent = "/// Reads.\npub fn read(\n    s: &[u8],\n) -> Result<u8> {\n}\n";
     assert_eq!(

@@ -1,10 +1,14 @@
-//! The debug section on threads of 128 KiB where callees rise or there are none, and of 512 KiB where they do not. A thread
-//! that runs out of stack ends the test program, so that these tests fail loudly. How much is taken, to the page, and that
-//! it is no more than 8 and 272 KiB, examples/stack.c measures in C.
+//! The debug section, and a bundle, on threads of 128 KiB where callees or large headers rise or there are none, and of 512
+//! KiB where they do not. A thread that runs out of stack ends the test program, so that these tests fail loudly. How much is
+//! taken, to the page, and that it is no more than 8 and 272 KiB, examples/stack.c measures in C.
 
 use std::thread;
 
+use bisquepond::Layout;
+use bisquepond::clean::{Bundle, Rule, Verdict, check_bundle};
 use bisquepond::debug::{DebugInfo, read_debug};
+use bisquepond::literal::Objects;
+use bisquepond::table::Strings;
 
 fn sleb128(bytes: &mut Vec<u8>, mut value: i64) {
     loop {
@@ -81,4 +85,55 @@ fn the_greatest_address_first() {
         .map(|callee| callee.address())
         .collect();
     assert_eq!(read, [0, 7, u32::MAX]);
+}
+
+/// A bundle of nothing but legacy functions, with their large headers in these places behind the table, one place being one
+/// large header's length.
+fn checked_on_a_stack_of(kib: usize, places: &[usize], moved: usize) -> Verdict {
+    let mut file = vec![0; places.len() * (16 + 31)];
+    for (i, place) in places.iter().enumerate() {
+        let place = places.len() * 16 + place * 31 + if i == 0 { moved } else { 0 };
+        let [a, b, c, d] = (place as u32).to_le_bytes();
+        let header = &mut file[16 * i..][..16];
+        (header[0], header[1], header[8], header[9], header[15]) = (a, b, c, d, 0x20);
+    }
+    let count = places.len() as u32;
+    let check = move || {
+        check_bundle(&Bundle {
+            file: &file,
+            layout: Layout::Legacy16,
+            start: 0,
+            count,
+            strings: Strings {
+                kinds: &[],
+                small: &[],
+                overflow: &[],
+                storage: &[],
+            },
+            string_count: 0,
+            objects: Objects {
+                keys: &[],
+                values: &[],
+            },
+            series: &[],
+        })
+    };
+    let thread = thread::Builder::new().stack_size(kib << 10);
+    thread.spawn(check).unwrap().join().unwrap().unwrap()
+}
+
+#[test]
+fn rising_large_headers() {
+    let places: Vec<usize> = (0..70_000).collect();
+    assert_eq!(checked_on_a_stack_of(128, &places, 0), Verdict::Clean);
+    assert_eq!(checked_on_a_stack_of(128, &[], 0), Verdict::Clean);
+    let broken = checked_on_a_stack_of(512, &places, 1);
+    let (rule, place) = (Rule::LargeHeaders, 0);
+    assert_eq!(broken, Verdict::Broken { rule, place });
+}
+
+#[test]
+fn falling_large_headers() {
+    let places: Vec<usize> = (0..70_000).rev().collect();
+    assert_eq!(checked_on_a_stack_of(512, &places, 0), Verdict::Clean);
 }

@@ -1,6 +1,6 @@
 //! The literals: buffer.rs of the published Rust beside the calls of module buffer of libhbc_c.a.
 
-mod case;
+pub mod case;
 mod differences;
 mod groups;
 mod hostile;

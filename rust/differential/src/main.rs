@@ -8,6 +8,8 @@ mod buffer;
 #[cfg(published)]
 mod case;
 #[cfg(published)]
+mod clean;
+#[cfg(published)]
 mod debug;
 #[cfg(published)]
 mod differences;
@@ -45,6 +47,7 @@ fn main() -> ExitCode {
         buffer::LAYER,
         parsing::LAYER,
         debug::LAYER,
+        clean::LAYER,
     ])
 }
 

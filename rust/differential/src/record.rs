@@ -34,6 +34,7 @@ pub const DECODE_STRINGS_HERMES: u64 = 31;
 pub const STRING_TEXT: u64 = 32;
 pub const WHY_NO_HANDLERS: u64 = 33;
 pub const READ_THEN_REFRESHED: u64 = 34;
+pub const CHECK_BUNDLE: u64 = 35;
 
 /// No call: the records before it are counted, and told under the name that follows.
 const REPORT: u64 = 0;

@@ -1,6 +1,6 @@
 //! The string tables: table.rs of the published Rust beside the calls of module table of libhbc_c.a.
 
-mod case;
+pub mod case;
 mod differences;
 mod groups;
 mod hostile;

@@ -136,6 +136,19 @@ impl Case<'_> {
         Expected { number: 0, place: used, kinds, payloads }
     }
 
+    /// Kind and payload of each value, or the refusal, where room is lent for all. How many bytes they take is not asked for.
+    pub fn values(&self) -> Result<Vec<(u32, u64)>, Refusal> {
+        let end = self.buffer.len();
+        if end > LIMIT {
+            return Err((1, 0));
+        }
+        let values = self.rust(end, self.count).map_err(|error| match refusal(&error) {
+            3 => (3, last(0..self.count, 0, |count| self.rust(end, count).is_ok())),
+            number => (number, 0),
+        })?;
+        Ok(values.iter().map(told).collect())
+    }
+
     /// Compares beside another buffer, which is not looked at.
     pub fn compare_beside(&self, other: &[u8]) -> Compared {
         let (right, ()) = self.right(None);

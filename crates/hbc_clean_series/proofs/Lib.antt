@@ -1,0 +1,3 @@
+pub mod Gaps
+pub mod Highs
+pub mod Exits
