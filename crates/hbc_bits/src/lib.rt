@@ -1,4 +1,6 @@
 // One bit field of a word.
+#![tactic(auto)]
+
 ghost use Rattle.std.specs.Prelude.{◌≡◌};
 ghost use Rattle.hbc_bits.specs.Bits.{field};
 

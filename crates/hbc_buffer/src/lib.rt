@@ -1,5 +1,7 @@
 // Literal series, after buffer.rs: tags, runs of values, and two lent tables that take kind and payload.
 // Checked first, run by run; written after.
+#![tactic(auto)]
+
 ghost use Rattle.std.specs.Prelude.{◌≡◌, ◌+◌, ◌-◌, ◌*◌, ◌≤◌, ◌<◌, ◌^◌, min, length, true, false};
 ghost use Rattle.hbc_bits.specs.Bits.{le_at, field};
 ghost use Rattle.hbc_io.specs.Outcome.{cursor_at, limit};
@@ -12,7 +14,7 @@ use hbc_bits::bits;
 use hbc_buffer_literal::{kind, read_payload, width};
 use hbc_io::{Cursor, LIMIT, ReadU8, ReadU64, Refusal, read_u8, read_u64, refuse};
 
-#[derive(Drop)]
+#[derive(Clone, Copy)]
 pub enum Series {
     // how many bytes the series has
     Used(u32),
@@ -108,7 +110,7 @@ fn past_empty(s: &[u8], at: usize) -> usize
 }
 
 // Where a pass stands: a place in the file, and how many values are read.
-#[derive(Drop)]
+#[derive(Clone, Copy)]
 pub struct Place {
     pub at: usize,
     pub done: usize,

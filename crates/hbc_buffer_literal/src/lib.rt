@@ -1,4 +1,6 @@
 // One literal, after buffer.rs: what bits 4 to 6 of a tag say of a value, and the value itself.
+#![tactic(auto)]
+
 ghost use Rattle.std.specs.Prelude.{◌≡◌, ◌<◌, ◌^◌};
 ghost use Rattle.hbc_bits.specs.Bits.{field};
 ghost use Rattle.hbc_io.specs.Answers.{says_u64};
@@ -12,7 +14,7 @@ use hbc_io::{
 };
 
 // A value of a literal buffer. A string is its number in the string table.
-#[derive(Drop)]
+#[derive(Clone, Copy)]
 pub enum Literal {
     Null,
     Bool(bool),
@@ -21,7 +23,7 @@ pub enum Literal {
     Integer(i32),
 }
 
-#[derive(Drop)]
+#[derive(Clone, Copy)]
 pub enum ReadLiteral {
     Got(Literal, Cursor),
     Refused(Refusal, Cursor),

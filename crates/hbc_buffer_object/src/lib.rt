@@ -1,4 +1,6 @@
 // An object's series, after buffer.rs: key and value buffers that the caller lends, each with its own lifetime, one of them named by a yes or no.
+#![tactic(auto)]
+
 ghost use Rattle.std.specs.Prelude.{◌≡◌};
 ghost use Rattle.hbc_buffer.specs.Series.{says_series};
 ghost use Rattle.hbc_io.specs.Plain.{span_of, IsPart};
@@ -8,7 +10,7 @@ use hbc_buffer::{Series, read_series};
 use hbc_io::{Refusal, Span, refuse};
 
 // What was read: of the keys or not, and where its bytes are there. Refused: no bytes, and the refusal; accepted, its number is 0.
-#[derive(Drop)]
+#[derive(Clone, Copy)]
 pub struct Object {
     pub yes: bool,
     pub start: usize,

@@ -1,5 +1,7 @@
 // The public calls for C and Rust: numbers, and slices as a pointer and a count. Each is a line over the boundary code of its layer (hbc_c_io,
 // hbc_c_function, ..), where it is proved: an archive exports the functions of one crate alone.
+#![tactic(auto)]
+
 pub mod buffer;
 pub mod clean;
 pub mod debug;

@@ -1,4 +1,6 @@
 // The calls of hbc_buffer_literal, hbc_buffer and hbc_buffer_object for C and Rust, each behind an export of hbc_c.
+#![tactic(auto)]
+
 ghost use Rattle.std.specs.Prelude.{◌≡◌};
 ghost use Rattle.hbc_io.specs.Outcome.{low_bits};
 ghost use Rattle.hbc_buffer_object.specs.Object.{says_object};

@@ -1,5 +1,7 @@
 // The clean-bundle profile for C and Rust, behind an export of hbc_c. A layout is a number, 0 legacy and 1 modern; the answer is 0 or a rule, and a word takes
 // its place.
+#![tactic(auto)]
+
 ghost use Rattle.std.specs.Prelude.{◌≡◌, min};
 ghost use Rattle.hbc_clean.specs.Bundle.{given, says_bundle};
 ghost use Rattle.hbc_c_code.specs.Code.{code_in};

@@ -1,4 +1,6 @@
 // An answer as one number for C and Rust: a refusal's number in the high half and its place in the low half; accepted, the high half is 0.
+#![tactic(auto)]
+
 ghost use Rattle.std.specs.Prelude.{◌≡◌};
 ghost use Rattle.hbc_c_code.specs.Code.{code_of};
 

@@ -1,5 +1,7 @@
 // The debug section for C and Rust, behind an export of hbc_c. Accepted, the answer is 0 and the four counts and the mark are in the numbers lent for
 // them; refused, those and the tables stay.
+#![tactic(auto)]
+
 ghost use Rattle.hbc_debug.specs.Debug.{tables};
 ghost use Rattle.hbc_c_debug.specs.Debug.{counts, lent, ToldDebug};
 

@@ -1,5 +1,7 @@
 // The calls on function headers for C and Rust, each behind an export of hbc_c. A layout is a number, 0 legacy and 1 modern; where
 // rows are written the low half of an accepted answer is how many, where bytes are, their end.
+#![tactic(auto)]
+
 ghost use Rattle.std.specs.Prelude.{◌≡◌};
 ghost use Rattle.hbc_function_header.specs.Meets.{function_meets};
 ghost use Rattle.hbc_function.specs.Table.{lent};

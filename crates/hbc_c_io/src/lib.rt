@@ -1,5 +1,7 @@
 // The calls of hbc_bits and of the cursor layer for C and Rust, each behind an export of hbc_c. The cursor goes in and comes back at `at`;
 // a value and its mark are written only where one was read.
+#![tactic(auto)]
+
 ghost use Rattle.std.specs.Prelude.{◌≡◌};
 ghost use Rattle.std.specs.Float.Ieee.{of_bits};
 ghost use Rattle.std.specs.Float.{binary64};

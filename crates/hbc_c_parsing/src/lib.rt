@@ -1,4 +1,6 @@
 // Handlers and trailing sections for C and Rust, each behind an export of hbc_c.
+#![tactic(auto)]
+
 ghost use Rattle.std.specs.Prelude.{◌≡◌};
 ghost use Rattle.hbc_rows.specs.Rows.{put_row};
 ghost use Rattle.hbc_parsing_handlers.specs.Why.{reason_number};

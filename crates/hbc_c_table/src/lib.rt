@@ -1,4 +1,6 @@
 // The calls of hbc_table, hbc_table_strings and hbc_table_bytes for C and Rust, each behind an export of hbc_c. The cursor goes in and comes back at `at`.
+#![tactic(auto)]
+
 ghost use Rattle.hbc_c_table.specs.Table.{ToldTable, ToldStrings, ToldPart};
 
 use hbc_c_code::code;

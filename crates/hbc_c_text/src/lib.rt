@@ -1,4 +1,6 @@
 // The calls of hbc_text and hbc_json for C and Rust, behind exports of hbc_c.
+#![tactic(auto)]
+
 ghost use Rattle.hbc_c_text.specs.Text.{ToldText, ToldStringsJson};
 
 use hbc_c_code::code;

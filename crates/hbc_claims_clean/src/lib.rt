@@ -1,1 +1,3 @@
 // No code: what the clean-bundle profile promises. The statements stand in specs/, their proofs in proofs/.
+
+#![tactic(auto)]

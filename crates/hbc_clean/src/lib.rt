@@ -1,4 +1,6 @@
 // The clean-bundle profile: whether headers, kinds, strings and literal series are tidy, by five rules in order. Nothing is lent to be written.
+#![tactic(auto)]
+
 ghost use Rattle.std.specs.Prelude.{◌≡◌, cond, List, ℕ, ◌+◌, ◌≤◌, ◌<◌, ◌^◌, length, ltb, eqb};
 ghost use Rattle.hbc_io.specs.Answer.{gives};
 ghost use Rattle.hbc_table_strings.specs.Hermes.{run_length, lengths};
@@ -17,7 +19,7 @@ use hbc_rows::{field_of, word_of};
 use hbc_table_strings::judge_entry;
 
 // Clean, or the first broken rule, from 1 to 5, and its lowest place; or a reader's refusal.
-#[derive(Drop)]
+#[derive(Clone, Copy)]
 pub enum Bundle {
     Clean,
     Broken(u32, usize),
@@ -62,7 +64,7 @@ fn adds_up(kinds: &[u32], strings: u32) -> bool
 }
 
 // Whether rule 2 is broken, and its lowest place if so.
-#[derive(Drop)]
+#[derive(Clone, Copy)]
 pub struct RunFound {
     pub broken: bool,
     pub place: usize,

@@ -1,6 +1,8 @@
 // Large headers that are tidy: at or after the table's end, and apart. Those in rising order take one pass. Else each pass looks at the large headers
 // in a window of the file, by slots of one header's length: headers of one slot share bytes, and with any other only one in the slot beside it can. So
 // it is enough to keep the first function of each slot, and the passes are no more than the windows of a file, however many functions there are.
+#![tactic(auto)]
+
 ghost use Rattle.std.specs.Prelude.{◌≡◌, true, false, ℕ, ◌+◌, ◌-◌, ◌*◌, ◌/◌, ◌≤◌, ◌<◌, ◌^◌, length};
 ghost use Rattle.hbc_io.specs.Answer.{gives, asked};
 ghost use Rattle.hbc_io.specs.Outcome.{limit};
@@ -21,7 +23,7 @@ use hbc_rows::word_of;
 const SLOTS: usize = 65536;
 
 // A function's large header, if it has one.
-#[derive(Drop)]
+#[derive(Clone, Copy)]
 pub struct Spot {
     pub large: bool,
     pub place: usize,

@@ -1,5 +1,7 @@
 // Literal series that are tidy: each is walked once, tag by tag, and nothing is written. What is found on the way: a tag of length 0 before the last value
 // asked for, and a string number that is not below the string count.
+#![tactic(auto)]
+
 ghost use Rattle.std.specs.Prelude.{◌≡◌, true, cond, ◌+◌, ◌*◌, ◌≤◌, ◌<◌, ◌^◌, min, ltb, eqb, length};
 ghost use Rattle.hbc_bits.specs.Bits.{le_at};
 ghost use Rattle.hbc_io.specs.Outcome.{cursor_at, limit};
@@ -20,14 +22,14 @@ use hbc_rows::word_of;
 pub const SERIES_WIDTH: usize = 3;
 
 // The lowest series that passes a tag of length 0, and the lowest that holds a string number too high; how many series there are where none does.
-#[derive(Drop)]
+#[derive(Clone, Copy)]
 pub enum Walked {
     Lowest(usize, usize),
     Refused(Refusal),
 }
 
 // A tag: whether its bytes are there, bits 4 to 6 of the first, how many values it has, and where they start.
-#[derive(Drop)]
+#[derive(Clone, Copy)]
 pub struct Tag {
     pub there: bool,
     pub sort: u64,
@@ -36,13 +38,13 @@ pub struct Tag {
 }
 
 // What is found in one series.
-#[derive(Drop)]
+#[derive(Clone, Copy)]
 pub struct Marks {
     pub empty: bool,
     pub high: bool,
 }
 
-#[derive(Drop)]
+#[derive(Clone, Copy)]
 pub enum Found {
     Done(Marks),
     Refused(Refusal),

@@ -1,5 +1,7 @@
 // The debug section, after debug.rs: strings, scopes with their names, and callees, into four lent tables.
 // A first pass counts; only if every table has the rows does a second pass write, and it cannot fail.
+#![tactic(auto)]
+
 ghost use Rattle.std.specs.Prelude.{◌≡◌, ◌+◌, ◌≤◌, length};
 ghost use Rattle.std.proofs.lemmas.List.Edits.{sets};
 ghost use Rattle.hbc_io.specs.Outcome.{limit};
@@ -21,7 +23,7 @@ use hbc_debug_strings::{STRING_WORDS, StringCount, StringsCounted, count_strings
 use hbc_io::{Refusal, refuse};
 
 // How many rows each table has.
-#[derive(Drop)]
+#[derive(Clone, Copy)]
 pub struct Counts {
     pub strings: usize,
     pub scopes: usize,
@@ -30,7 +32,7 @@ pub struct Counts {
 }
 
 // The counts, and whether every LEB128 number that was read was exact.
-#[derive(Drop)]
+#[derive(Clone, Copy)]
 pub enum Debugged {
     Read(Counts, bool),
     Refused(Refusal),

@@ -1,4 +1,6 @@
 // The pairs of address and name in the callees of the debug section, and the count in front of them.
+#![tactic(auto)]
+
 ghost use Rattle.std.specs.Prelude.{◌≡◌};
 ghost use Rattle.hbc_debug_pairs.specs.Pairs.{PairRead, counter_read};
 ghost use Rattle.hbc_debug_pairs.specs.Private.{pair_bits};
@@ -7,7 +9,7 @@ use hbc_io::{Cursor, Failed};
 use hbc_io_leb::{ReadHeld, read_sleb128_bits};
 
 // One pair: its name is a string's number if it is known.
-#[derive(Drop)]
+#[derive(Clone, Copy)]
 pub struct Pair {
     pub address: u32,
     pub known: bool,
@@ -15,21 +17,21 @@ pub struct Pair {
 }
 
 // With whether those of its numbers that were read are exact: of a pair whose name fails, its address.
-#[derive(Drop)]
+#[derive(Clone, Copy)]
 pub enum ReadPair {
     Got(Pair, Cursor, bool),
     Refused(Failed, Cursor, bool),
 }
 
 // How many pairs are looked for, and from where.
-#[derive(Drop)]
+#[derive(Clone, Copy)]
 pub struct Counter {
     pub count: usize,
     pub at: usize,
 }
 
 // With whether the count is exact, one that is refused too.
-#[derive(Drop)]
+#[derive(Clone, Copy)]
 pub struct CounterRead {
     pub counter: Counter,
     pub exact: bool,

@@ -1,4 +1,6 @@
 // Where the debug section is, and its three parts. Offsets from the file, from the section and from the debug data are three types.
+#![tactic(auto)]
+
 ghost use Rattle.std.specs.Prelude.{◌≡◌, ◌+◌, ◌*◌, ◌^◌, ◌≤◌, ◌<◌};
 ghost use Rattle.hbc_io.specs.Outcome.{limit};
 ghost use Rattle.hbc_debug_parts.specs.Places.{in_file, in_section};
@@ -13,46 +15,46 @@ pub const HEADER_SIZE: usize = 28;
 pub const NO_SECTION: u32 = 0xFFFF_FFFF;
 
 // A place counted from the file's first byte.
-#[derive(Drop)]
+#[derive(Clone, Copy)]
 pub struct InFile(pub usize);
 
 // A place counted from the section's first byte.
-#[derive(Drop)]
+#[derive(Clone, Copy)]
 pub struct InSection(pub usize);
 
 // A place counted from the first byte of the debug data.
-#[derive(Drop)]
+#[derive(Clone, Copy)]
 pub struct InData(pub usize);
 
 // Bytes of the file.
-#[derive(Drop)]
+#[derive(Clone, Copy)]
 pub struct Part {
     pub start: InFile,
     pub len: usize,
 }
 
-#[derive(Drop)]
+#[derive(Clone, Copy)]
 pub struct Parts {
     pub scopes: Part,
     pub callees: Part,
     pub strings: Part,
 }
 
-#[derive(Drop)]
+#[derive(Clone, Copy)]
 pub enum PartsFound {
     Found(Parts),
     Refused(Refusal),
 }
 
 // The answer of a call that writes the rows of a list.
-#[derive(Drop)]
+#[derive(Clone, Copy)]
 pub enum Written {
     Rows,
     Refused(Refusal),
 }
 
 // The seven words of the header.
-#[derive(Drop)]
+#[derive(Clone, Copy)]
 pub struct Header {
     pub filename_count: u32,
     pub filename_storage_size: u32,

@@ -1,4 +1,6 @@
 // The scopes of the debug section.
+#![tactic(auto)]
+
 ghost use Rattle.std.specs.Prelude.{◌≡◌, ◌+◌, ◌^◌, ◌<◌};
 ghost use Rattle.std.proofs.lemmas.List.Edits.{sets};
 ghost use Rattle.hbc_io.specs.Outcome.{valued};
@@ -31,7 +33,7 @@ pub const SCOPE_COUNT: usize = 4;
 pub const NONE: u32 = 0xFFFF_FFFF;
 
 // What stands before a scope's names, as its row has it.
-#[derive(Drop)]
+#[derive(Clone, Copy)]
 pub struct Head {
     pub parent: u32,
     pub flags: u32,
@@ -39,21 +41,21 @@ pub struct Head {
 }
 
 // With each, whether the numbers that were read are exact.
-#[derive(Drop)]
+#[derive(Clone, Copy)]
 pub enum ReadHead {
     Got(Head, Cursor, bool),
     Refused(Failed, Cursor, bool),
 }
 
 // How many names there were, and where reading goes on.
-#[derive(Drop)]
+#[derive(Clone, Copy)]
 pub struct Names {
     pub count: usize,
     pub next: Cursor,
 }
 
 // The same, and whether they are exact.
-#[derive(Drop)]
+#[derive(Clone, Copy)]
 pub struct NamesMarked {
     pub count: usize,
     pub next: Cursor,
@@ -61,7 +63,7 @@ pub struct NamesMarked {
 }
 
 // How many scopes there are, how many names in all, and whether every number that was read is exact.
-#[derive(Drop)]
+#[derive(Clone, Copy)]
 pub struct ScopeCounts {
     pub scopes: usize,
     pub names: usize,
@@ -69,7 +71,7 @@ pub struct ScopeCounts {
 }
 
 // The answer of the counting pass.
-#[derive(Drop)]
+#[derive(Clone, Copy)]
 pub enum ScopesCounted {
     Counts(ScopeCounts),
     Refused(Refusal),

@@ -1,4 +1,6 @@
 // The strings of the debug section: length-prefixed, one after the other until one fails.
+#![tactic(auto)]
+
 ghost use Rattle.std.specs.Prelude.{◌≡◌, ◌+◌, ◌≤◌, length};
 ghost use Rattle.std.proofs.lemmas.List.Edits.{sets};
 ghost use Rattle.hbc_io.specs.Outcome.{limit};
@@ -17,14 +19,14 @@ use hbc_rows::put_words;
 pub const STRING_WORDS: usize = 2;
 
 // What the counting pass found: how many, and whether every number that it read was exact.
-#[derive(Drop)]
+#[derive(Clone, Copy)]
 pub struct StringCount {
     pub strings: usize,
     pub exact: bool,
 }
 
 // The answer of the counting pass.
-#[derive(Drop)]
+#[derive(Clone, Copy)]
 pub enum StringsCounted {
     Counts(StringCount),
     Refused(Refusal),

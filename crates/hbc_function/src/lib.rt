@@ -1,4 +1,6 @@
 // The table of functions, read into lent rows, and refreshed after a span of the file changed.
+#![tactic(auto)]
+
 ghost use Rattle.std.specs.Prelude.{◌≡◌, cond, ◌+◌, ◌-◌, ◌*◌, ◌≤◌, ◌<◌, length, leb, eqb};
 ghost use Rattle.hbc_io.specs.Answer.{gives, asked};
 ghost use Rattle.hbc_io.specs.Outcome.{limit};
@@ -24,14 +26,14 @@ use hbc_rows::put_row;
 const SAFE: u64 = 0x4000_0000_0000_0000;
 
 // How many functions were read again, or the refusal.
-#[derive(Drop)]
+#[derive(Clone, Copy)]
 pub enum Refreshed {
     Done(u32),
     Refused(Refusal),
 }
 
 // What a loop over rows comes to: the first function that it left, and the totals of those before it.
-#[derive(Drop)]
+#[derive(Clone, Copy)]
 struct Run {
     next: u32,
     large: u64,
@@ -40,7 +42,7 @@ struct Run {
 
 // What the first pass of a refresh finds: how many functions are read again, to where they follow the first of them without a gap, and the totals of the old
 // rows of all of them; or the refusal.
-#[derive(Drop)]
+#[derive(Clone, Copy)]
 enum Checked {
     Met(u32, u32, Totals),
     Refused(Refusal),

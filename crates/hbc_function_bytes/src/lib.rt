@@ -1,5 +1,7 @@
 // The bytes of a row: whether it is right, and the words of its inline header, or of the one that says where its large one is.
 // A row is an array, so that every call is total; no field of a header crosses a word of 32 bits.
+#![tactic(auto)]
+
 ghost use Rattle.std.specs.Prelude.{◌≡◌};
 ghost use Rattle.hbc_bits.specs.Fields.{words_of};
 ghost use Rattle.hbc_function_bytes.specs.Bytes.{values_in, inline_number, pointer_to, right_row};

@@ -1,4 +1,6 @@
 // One function of a header table: what it is read from, its record or a refusal, its row, and whether it meets a span of the file.
+#![tactic(auto)]
+
 ghost use Rattle.std.specs.Prelude.{◌≡◌, ◌^◌, ◌≤◌, ◌<◌};
 ghost use Rattle.hbc_io.specs.Answer.{asked};
 ghost use Rattle.hbc_io.specs.Outcome.{limit};
@@ -9,21 +11,21 @@ use hbc_function_record::{Layout, Link, Record, WIDTH, header_link, header_size,
 use hbc_io::{LIMIT, Refusal, refuse};
 
 // The answer for one function: its record, and the place of the large header that it was read from, INLINE where that was its own.
-#[derive(Drop)]
+#[derive(Clone, Copy)]
 pub enum Function {
     Read(Record, u32),
     Refused(Refusal),
 }
 
 // The same answer without the record: small, for a pass that only checks.
-#[derive(Drop)]
+#[derive(Clone, Copy)]
 pub enum Reading {
     Read,
     Refused(Refusal),
 }
 
 // What a function is read from: nothing where its header is not in the file, the header at a place, or that and the large one at another.
-#[derive(Drop)]
+#[derive(Clone, Copy)]
 pub enum Ground {
     None,
     Inline(usize),
@@ -31,7 +33,7 @@ pub enum Ground {
 }
 
 // The answer for what a function is read from.
-#[derive(Drop)]
+#[derive(Clone, Copy)]
 pub enum Grounded {
     Inline(usize),
     Large(usize, usize),
@@ -39,14 +41,14 @@ pub enum Grounded {
 }
 
 // The answer for whether it meets a span.
-#[derive(Drop)]
+#[derive(Clone, Copy)]
 pub enum Meeting {
     Met(bool),
     Refused(Refusal),
 }
 
 // Where the record itself is: in its own header, in a large one at a place, or nowhere, with the refusal's number.
-#[derive(Drop)]
+#[derive(Clone, Copy)]
 pub enum Where {
     Inline,
     Large(usize),

@@ -1,4 +1,6 @@
 // A header put into the bytes that are lent for it: each word by four stores that a compiler makes one of.
+#![tactic(auto)]
+
 ghost use Rattle.std.specs.Prelude.{◌≡◌, [], ◌∷◌, ◌+◌, ◌≤◌, length};
 ghost use Rattle.hbc_bits.specs.Fields.{bytes_of, laid};
 ghost use Rattle.hbc_rows.specs.Rows.{put};

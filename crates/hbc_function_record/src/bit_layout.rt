@@ -4,10 +4,10 @@ ghost use Rattle.std.specs.Prelude.{◌≡◌};
 ghost use Rattle.hbc_function_record.specs.BitLayout.{legacy_bits, modern_bits};
 
 // A field: its first bit, and how many bits it has.
-#[derive(Drop)]
+#[derive(Clone, Copy)]
 pub struct Field(pub u32, pub u32);
 
-#[derive(Drop)]
+#[derive(Clone, Copy)]
 pub struct LegacyBits {
     pub offset: Field,
     pub param_count: Field,
@@ -21,7 +21,7 @@ pub struct LegacyBits {
     pub flags: Field,
 }
 
-#[derive(Drop)]
+#[derive(Clone, Copy)]
 pub struct ModernBits {
     pub offset: Field,
     pub param_count: Field,

@@ -1,5 +1,7 @@
 // The format of a function's header: its two layouts, inline and large, where a large one is, and the words of a function's row.
 // Every call is total: a header whose bytes are not all there is read as one of zeros.
+#![tactic(auto)]
+
 ghost use Rattle.std.specs.Prelude.{◌≡◌};
 ghost use Rattle.hbc_io.specs.Plain.{word_at};
 ghost use Rattle.hbc_function_record.specs.Record.{size_of, large_of, inline_of, large_in, flags_of, overflowed, link_of};
@@ -16,14 +18,14 @@ use crate::words::word_here;
 use hbc_io::LIMIT;
 
 // The two forms of a function header, by the bytes that an inline one has.
-#[derive(Drop)]
+#[derive(Clone, Copy)]
 pub enum Layout {
     Legacy16,
     Modern12,
 }
 
 // The fields in the order in which a header holds them; id is the function's number.
-#[derive(Drop)]
+#[derive(Clone, Copy)]
 pub struct Legacy {
     pub id: u32,
     pub offset: u32,
@@ -39,7 +41,7 @@ pub struct Legacy {
 }
 
 // Likewise; info_offset is not in the header, but made from its place.
-#[derive(Drop)]
+#[derive(Clone, Copy)]
 pub struct Modern {
     pub id: u32,
     pub offset: u32,
@@ -58,21 +60,21 @@ pub struct Modern {
     pub info_offset: u32,
 }
 
-#[derive(Drop)]
+#[derive(Clone, Copy)]
 pub enum Record {
     Legacy(Legacy),
     Modern(Modern),
 }
 
 // What reading a function finds: its record, and the place of the large header that it was read from, INLINE where that was its own.
-#[derive(Drop)]
+#[derive(Clone, Copy)]
 pub struct Found {
     pub own: Record,
     pub place: u32,
 }
 
 // What a header is flagged for: nothing but itself, or a large one at a place.
-#[derive(Drop)]
+#[derive(Clone, Copy)]
 pub enum Link {
     Own,
     Large(usize),

@@ -1,4 +1,6 @@
 // Two totals over the rows of a table of functions: how many were read from large headers, and the sum of their sizes.
+#![tactic(auto)]
+
 ghost use Rattle.std.specs.Prelude.{◌≡◌};
 ghost use Rattle.hbc_function_totals.specs.Totals.{share_of, exchanged, says_kept};
 
@@ -7,20 +9,20 @@ use hbc_io::{Refusal, refuse};
 use hbc_rows::word_of;
 
 // What a row adds to them.
-#[derive(Drop)]
+#[derive(Clone, Copy)]
 pub struct Share {
     pub large: u32,
     pub size: u32,
 }
 
-#[derive(Drop)]
+#[derive(Clone, Copy)]
 pub struct Totals {
     pub large: u64,
     pub sizes: u64,
 }
 
 // The totals after a row was exchanged, or the refusal.
-#[derive(Drop)]
+#[derive(Clone, Copy)]
 pub enum Kept {
     Now(Totals),
     Refused(Refusal),

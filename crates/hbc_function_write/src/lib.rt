@@ -1,4 +1,6 @@
 // The table of functions, written from lent rows into a lent buffer: checked first, written after.
+#![tactic(auto)]
+
 ghost use Rattle.std.specs.Prelude.{◌≡◌, true, false, ◌+◌, ◌*◌, ◌^◌, ◌≤◌, ◌<◌, min, length};
 ghost use Rattle.hbc_io.specs.Answer.{gives};
 ghost use Rattle.hbc_rows.specs.Rows.{row_at};
@@ -17,14 +19,14 @@ use hbc_io::{LIMIT, Refusal, refuse};
 use hbc_rows::put_row;
 
 // The end of what was written, or the refusal.
-#[derive(Drop)]
+#[derive(Clone, Copy)]
 pub enum Wrote {
     To(usize),
     Refused(Refusal),
 }
 
 // What the check knows after some rows: from where on large headers go, the end of what is written, and the first row that is to be refused 14.
-#[derive(Drop)]
+#[derive(Clone, Copy)]
 struct Plan {
     free: usize,
     end: usize,
@@ -32,7 +34,7 @@ struct Plan {
 }
 
 // A row that is not plain: what is known with it, or that it is wrong.
-#[derive(Drop)]
+#[derive(Clone, Copy)]
 enum Looked {
     Next(Plan),
     Wrong,

@@ -1,6 +1,8 @@
 // A cursor over bytes that the caller lends, after io.rs: little-endian reads, seek, align, and spans of bytes.
 // Every call at a cursor tests what it needs: an input longer than LIMIT, then a cursor past the end, then the bytes themselves.
 // `remaining`, `part` and the peeks refuse nothing: none left, the empty part and zeros are their answers there.
+#![tactic(auto)]
+
 ghost use Rattle.std.specs.Prelude.{◌≡◌, ◌+◌, ◌-◌, ◌≤◌, ◌<◌, length};
 ghost use Rattle.std.specs.Float.Ieee.{of_bits};
 ghost use Rattle.std.specs.Float.{binary64};
@@ -13,80 +15,80 @@ ghost use Rattle.hbc_io.specs.Answers.{says_u8, says_u16, says_u32, says_u64, sa
 pub const LIMIT: usize = 1073741824;
 
 // A position in the input. It may stand past the end; each call that reads or aligns there refuses that.
-#[derive(Drop)]
+#[derive(Clone, Copy)]
 pub struct Cursor {
     pub at: usize,
 }
 
 // A number of the refusal table, and the place it was met at.
-#[derive(Drop)]
+#[derive(Clone, Copy)]
 pub struct Refusal {
     pub number: u32,
     pub place: u32,
 }
 
 // What is told of an item that could not be read whole, though some of its numbers were.
-#[derive(Drop)]
+#[derive(Clone, Copy)]
 pub struct Failed {
     pub refusal: Refusal,
 }
 
-#[derive(Drop)]
+#[derive(Clone, Copy)]
 pub enum ReadU8 {
     Got(u8, Cursor),
     Refused(Refusal, Cursor),
 }
 
-#[derive(Drop)]
+#[derive(Clone, Copy)]
 pub enum ReadU16 {
     Got(u16, Cursor),
     Refused(Refusal, Cursor),
 }
 
-#[derive(Drop)]
+#[derive(Clone, Copy)]
 pub enum ReadU32 {
     Got(u32, Cursor),
     Refused(Refusal, Cursor),
 }
 
-#[derive(Drop)]
+#[derive(Clone, Copy)]
 pub enum ReadU64 {
     Got(u64, Cursor),
     Refused(Refusal, Cursor),
 }
 
-#[derive(Drop)]
+#[derive(Clone, Copy)]
 pub enum ReadI8 {
     Got(i8, Cursor),
     Refused(Refusal, Cursor),
 }
 
-#[derive(Drop)]
+#[derive(Clone, Copy)]
 pub enum ReadI32 {
     Got(i32, Cursor),
     Refused(Refusal, Cursor),
 }
 
-#[derive(Drop)]
+#[derive(Clone, Copy)]
 pub enum ReadF64 {
     Got(f64, Cursor),
     Refused(Refusal, Cursor),
 }
 
-#[derive(Drop)]
+#[derive(Clone, Copy)]
 pub enum Moved {
     To(Cursor),
     Refused(Refusal, Cursor),
 }
 
 // A part of the input: where it starts, and how many bytes it has.
-#[derive(Drop)]
+#[derive(Clone, Copy)]
 pub struct Span {
     pub start: usize,
     pub len: usize,
 }
 
-#[derive(Drop)]
+#[derive(Clone, Copy)]
 pub enum ReadSpan {
     Got(Span, Cursor),
     Refused(Refusal, Cursor),

@@ -1,4 +1,6 @@
 // LEB128 numbers, after io.rs: groups of seven bits, the least first, at most ten of them.
+#![tactic(auto)]
+
 ghost use Rattle.std.specs.Prelude.{◌≡◌, ◌*◌, ◌^◌, ◌≤◌, ◌<◌, min, length, get_or};
 ghost use Rattle.hbc_io.specs.Outcome.{valued, twos, limit};
 ghost use Rattle.hbc_io_leb.specs.Leb.{leb_bytes};
@@ -9,53 +11,53 @@ ghost use Rattle.hbc_io_leb.specs.Signed.{sleb_at, bits_of, held_of, says_held};
 use hbc_io::{Cursor, LIMIT, Refusal, refuse};
 
 // What an unsigned number's bytes say, and whether no bit of it was lost.
-#[derive(Drop)]
+#[derive(Clone, Copy)]
 pub struct Uleb {
     pub value: u64,
     pub exact: bool,
 }
 
 // What a signed number's bytes say, and whether no bit of it was lost.
-#[derive(Drop)]
+#[derive(Clone, Copy)]
 pub struct Sleb {
     pub value: i64,
     pub exact: bool,
 }
 
-#[derive(Drop)]
+#[derive(Clone, Copy)]
 pub enum ReadUleb {
     Got(Uleb, Cursor),
     Refused(Refusal, Cursor),
 }
 
-#[derive(Drop)]
+#[derive(Clone, Copy)]
 pub enum ReadSleb {
     Got(Sleb, Cursor),
     Refused(Refusal, Cursor),
 }
 
 // The same with the number as the 64 bits that hold it, so that every test on one is a test of unsigned numbers.
-#[derive(Drop)]
+#[derive(Clone, Copy)]
 pub struct Held {
     pub bits: u64,
     pub exact: bool,
 }
 
-#[derive(Drop)]
+#[derive(Clone, Copy)]
 pub enum ReadHeld {
     Got(Held, Cursor),
     Refused(Refusal, Cursor),
 }
 
 // The low 64 bits of the groups, how many there were, and the last of their bytes.
-#[derive(Drop)]
+#[derive(Clone, Copy)]
 pub struct Groups {
     pub bits: u64,
     pub count: usize,
     pub last: u8,
 }
 
-#[derive(Drop)]
+#[derive(Clone, Copy)]
 pub enum ReadGroups {
     Got(Groups, Cursor),
     Refused(Refusal, Cursor),

@@ -1,4 +1,6 @@
 // Strings as spans of the input, after io.rs: ended by a zero byte, or with their length in front.
+#![tactic(auto)]
+
 ghost use Rattle.std.specs.Prelude.{◌≡◌};
 ghost use Rattle.hbc_io.specs.Answers.{says_span};
 ghost use Rattle.hbc_io_strings.specs.Strings.{zero_ended, marked_at, says_prefixed};
@@ -7,13 +9,13 @@ use hbc_io::{Cursor, LIMIT, ReadSpan, Refusal, Span, read_bytes, refuse};
 use hbc_io_leb::{ReadUleb, read_uleb128};
 
 // A string, and whether the length in front of it is exact.
-#[derive(Drop)]
+#[derive(Clone, Copy)]
 pub struct Prefixed {
     pub span: Span,
     pub exact: bool,
 }
 
-#[derive(Drop)]
+#[derive(Clone, Copy)]
 pub enum ReadPrefixed {
     Got(Prefixed, Cursor),
     Refused(Refusal, Cursor),

@@ -1,4 +1,6 @@
 // The listing: its job, which is tagged fields, each a tag of one byte, a length of two, and so many bytes; and its lines, in show.rt.
+#![tactic(auto)]
+
 ghost use Rattle.std.specs.Prelude.{◌≡◌, ◌^◌, ◌<◌};
 ghost use Rattle.hbc_job.specs.Job.{tagged, malformed, says_job, job_of};
 
@@ -8,7 +10,7 @@ use hbc_io::{LIMIT, Refusal, refuse, u8_at, u16_at, u32_at};
 // Where the file of a job starts: after three heads, 1 + 4 + 4 bytes, and its own head.
 pub const FILE: usize = 21;
 
-#[derive(Drop)]
+#[derive(Clone, Copy)]
 pub struct Parts {
     pub layout: Layout,
     pub start: u32,
@@ -18,7 +20,7 @@ pub struct Parts {
 // How many functions are listed at most.
 pub const LISTED: usize = 512;
 
-#[derive(Drop)]
+#[derive(Clone, Copy)]
 pub enum Job {
     Of(Parts),
     Refused(Refusal),

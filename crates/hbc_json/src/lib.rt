@@ -1,4 +1,6 @@
 // All strings as one JSON array, written whole or not at all. Where there is room for any strings of these lengths none is measured.
+#![tactic(auto)]
+
 ghost use Rattle.std.specs.Prelude.{◌≡◌, true, ◌+◌, ◌≤◌, length, leb};
 ghost use Rattle.std.proofs.lemmas.List.Edits.{sets};
 ghost use Rattle.hbc_io.specs.Outcome.{limit};

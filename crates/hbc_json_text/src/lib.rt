@@ -1,5 +1,7 @@
 // A string's bytes as the inside of a JSON string: their text, with what is escaped. Most strings have nothing to escape: their text is written at once.
 // In others the pieces between are, and what is escaped by itself. Nothing is written before it is known that there is room.
+#![tactic(auto)]
+
 ghost use Rattle.std.specs.Prelude.{◌≡◌, true, false, ◌+◌, ◌≤◌, ◌<◌, length, leb};
 ghost use Rattle.std.proofs.lemmas.List.Edits.{sets};
 ghost use Rattle.hbc_io.specs.Outcome.{limit};

@@ -1,4 +1,6 @@
 // Runs many jobs through the listing: each is a name's length in one byte, a job's length in four, the name, and the job.
+#![tactic(auto)]
+
 ghost use Rattle.std.specs.Prelude.{◌<◌};
 
 use hbc_io::{u8_at, u32_at};

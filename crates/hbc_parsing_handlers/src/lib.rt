@@ -1,6 +1,8 @@
 // Exception handlers, after parsing.rs: why a function has none, and the rows of those that are there.
 // The reader counts and writes by one function that names the reason, `why_row`, and whoever asks for the reason asks the same one: what is listed
 // and the reason cannot differ.
+#![tactic(auto)]
+
 ghost use Rattle.std.specs.Prelude.{◌≡◌, ◌+◌, ◌*◌, ◌≤◌, ◌<◌, ◌^◌, length};
 ghost use Rattle.hbc_io.specs.Outcome.{limit};
 ghost use Rattle.hbc_rows.specs.Rows.{put_rows};
@@ -21,14 +23,14 @@ const HANDLER_BYTES: usize = 12;
 const HANDLER_WIDTH: usize = 4;
 
 // A function's handlers: how many, and where the first one is.
-#[derive(Drop)]
+#[derive(Clone, Copy)]
 pub struct Table {
     pub count: u32,
     pub place: usize,
 }
 
 // Why a function has no handlers.
-#[derive(Drop)]
+#[derive(Clone, Copy)]
 pub enum Reason {
     FlagClear,
     InfoZero,
@@ -40,21 +42,21 @@ pub enum Reason {
 }
 
 // Handlers that are shown, or the first reason why there are none.
-#[derive(Drop)]
+#[derive(Clone, Copy)]
 pub enum Why {
     Shown(Table),
     Hidden(Reason),
 }
 
 // A function's handlers or the reason why it has none, or the refusal.
-#[derive(Drop)]
+#[derive(Clone, Copy)]
 pub enum Explained {
     By(Why),
     Refused(Refusal),
 }
 
 // So many rows, or the refusal.
-#[derive(Drop)]
+#[derive(Clone, Copy)]
 pub enum Listed {
     Rows(usize),
     Refused(Refusal),

@@ -1,5 +1,7 @@
 // The trailing sections, after parsing.rs: regexp table, regexp storage, CJS pairs, function sources if given, bytecode.
 // A section is found by a read of its bytes and an align, as the Rust finds it; its entries are had by hbc_table's pair call at its start.
+#![tactic(auto)]
+
 ghost use Rattle.std.specs.Prelude.{◌≡◌};
 ghost use Rattle.hbc_io.specs.Answer.{told};
 ghost use Rattle.hbc_parsing_sections.specs.Sections.{says_sections, section_at, pairs_at, sources_at, sections_from, sections_at};
@@ -8,21 +10,21 @@ ghost use Rattle.hbc_parsing_sections.specs.Private.{says_section, says_sources}
 use hbc_io::{Cursor, Moved, ReadSpan, Refusal};
 
 // Where a section starts in the file, how many bytes it has with its padding, and how many entries.
-#[derive(Drop)]
+#[derive(Clone, Copy)]
 pub struct Section {
     pub start: usize,
     pub size: usize,
     pub entries: u32,
 }
 
-#[derive(Drop)]
+#[derive(Clone, Copy)]
 pub enum Sources {
     Given(Section),
     // not asked for
     Absent,
 }
 
-#[derive(Drop)]
+#[derive(Clone, Copy)]
 pub struct Sections {
     pub regexps: Section,
     pub storage: Section,
@@ -31,20 +33,20 @@ pub struct Sections {
     pub bytecode: Section,
 }
 
-#[derive(Drop)]
+#[derive(Clone, Copy)]
 pub enum ReadSections {
     Got(Sections),
     Refused(Refusal),
 }
 
 // A section and the cursor after its padding.
-#[derive(Drop)]
+#[derive(Clone, Copy)]
 pub enum ReadSection {
     Got(Section, Cursor),
     Refused(Refusal, Cursor),
 }
 
-#[derive(Drop)]
+#[derive(Clone, Copy)]
 pub enum ReadSources {
     Got(Sources, Cursor),
     Refused(Refusal, Cursor),

@@ -1,4 +1,6 @@
 // A reader that keeps its bytes with a position, after io.rs's ByteReader: thin calls over the cursor by value.
+#![tactic(auto)]
+
 ghost use Rattle.std.specs.Prelude.{◌≡◌};
 ghost use Rattle.hbc_io.specs.Outcome.{left, cursor_at, valued, and_then};
 ghost use Rattle.hbc_io.specs.Plain.{plain_at, seek_to, bytes_at, IsPart};

@@ -1,4 +1,6 @@
 // The fields of a recorded answer, and whether what came is what they list (docs/RECORDS.md). All reads are total: what is cut reads as nothing.
+#![tactic(auto)]
+
 ghost use Rattle.std.specs.Prelude.{◌≡◌, true, false, ◌&&◌, [], ◌∷◌, length, from_bits};
 ghost use Rattle.std.specs.Float.{binary64};
 ghost use Rattle.hbc_io.specs.Plain.{IsPart};
@@ -28,21 +30,21 @@ pub const FILL_BYTE: u8 = 0xA5;
 pub const NONE: usize = 0xA5A5_A5A5_A5A5_A5A5;
 
 // A number, and where the next one stands.
-#[derive(Drop)]
+#[derive(Clone, Copy)]
 pub struct Number {
     pub value: u64,
     pub next: usize,
 }
 
 // Whether what came is what is listed so far, and where the next number stands.
-#[derive(Drop)]
+#[derive(Clone, Copy)]
 pub struct Judged {
     pub same: bool,
     pub next: usize,
 }
 
 // Which call, and what it is asked, in the order that its judge names: numbers, and such as have 32 bits.
-#[derive(Drop)]
+#[derive(Clone, Copy)]
 pub struct Asked {
     pub call: u64,
     pub a: usize,
@@ -317,7 +319,7 @@ pub fn given<'r, 't>(fields: &'r [u8], k: usize, table: &'t mut [u32]) -> &'t mu
 }
 
 // How many records there are, and how many were answered otherwise.
-#[derive(Drop)]
+#[derive(Clone, Copy)]
 pub struct Tally {
     pub all: u64,
     pub bad: u64,

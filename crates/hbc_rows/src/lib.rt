@@ -1,6 +1,8 @@
 // What the layers share of lent tables of words: a word that may not be there, a field of a word, a row
 // of any width put at its place, words put from a place on.
 // All of it is total, so that a caller has nothing to prove and nothing to match.
+#![tactic(auto)]
+
 ghost use Rattle.std.specs.Prelude.{◌≡◌, ◌+◌, ◌≤◌, length};
 ghost use Rattle.std.proofs.lemmas.List.Edits.{sets};
 ghost use Rattle.hbc_bits.specs.Bits.{field};

@@ -1,5 +1,7 @@
 // Tables of u32 and of pairs of u32, after table.rs: from a cursor into a table that the caller lends.
 // A kind run is one u32, in the file as in the table, so that kind runs are read as a table of u32.
+#![tactic(auto)]
+
 ghost use Rattle.std.specs.Prelude.{◌≡◌, ◌+◌, ◌*◌, ◌^◌, ◌≤◌, ◌<◌, length};
 ghost use Rattle.hbc_bits.specs.Bits.{le_at};
 ghost use Rattle.hbc_rows.specs.Rows.{filled};

@@ -1,4 +1,6 @@
 // One string's bytes: the part of the storage that its row names.
+#![tactic(auto)]
+
 ghost use Rattle.std.specs.Prelude.{◌≡◌};
 ghost use Rattle.hbc_table_bytes.specs.StringBytes.{span_at, string_span, StringBytes};
 

@@ -6,7 +6,7 @@ use crate::Mode;
 use hbc_rows::field_of;
 
 // Where a string starts in the storage, and how many units it has.
-#[derive(Drop)]
+#[derive(Clone, Copy)]
 pub struct Entry {
     pub start: u32,
     pub units: u32,

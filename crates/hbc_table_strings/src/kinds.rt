@@ -7,7 +7,7 @@ use crate::Mode;
 use hbc_rows::{field_of, word_of};
 
 // The kind run that is held, and how many strings it has still to name.
-#[derive(Drop)]
+#[derive(Clone, Copy)]
 pub struct Held {
     pub run: usize,
     pub left: u32,

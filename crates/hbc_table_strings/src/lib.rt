@@ -1,5 +1,7 @@
 // String rows, after table.rs: kind runs, small entries, overflow pairs and the storage make a row of four words for each string.
 // What a mode decides: how a string comes by its kind (`moved_on`, kinds.rt), and which pair a long one takes (`pair_taken`, entries.rt).
+#![tactic(auto)]
+
 ghost use Rattle.std.specs.Prelude.{◌≡◌, ◌≤◌, ◌<◌, ◌^◌};
 ghost use Rattle.hbc_table_strings.specs.Strings.{says_decoded, scan, decoded_rows, lesser, DecodeStrings, judged};
 ghost use Rattle.hbc_table_strings.specs.Row.{row_for};
@@ -26,13 +28,13 @@ pub const STRING_INVALID: usize = 2;
 pub const STRING_MARKS: usize = 3;
 
 // Pairs and runs one after the other, as the published Rust has them, or as Hermes itself chooses them.
-#[derive(Drop)]
+#[derive(Clone, Copy)]
 pub enum Mode {
     InOrder,
     Hermes,
 }
 
-#[derive(Drop)]
+#[derive(Clone, Copy)]
 pub enum Decoded {
     // so many rows were written
     Rows(usize),

@@ -9,7 +9,7 @@ use crate::entries::{bytes_of, entry_of, utf16};
 use hbc_rows::put_row;
 
 // Start and byte length in the storage, both 0 if invalid; 0 valid or 1 invalid; marks, 1 UTF-16 and 2 identifier.
-#[derive(Drop)]
+#[derive(Clone, Copy)]
 pub struct StringRow {
     pub start: u32,
     pub bytes: u32,

@@ -1,4 +1,6 @@
 // One string's text, by its row: UTF-8 of the part of the storage that the row names.
+#![tactic(auto)]
+
 ghost use Rattle.std.specs.Prelude.{◌≡◌, ◌+◌, ◌*◌, ◌≤◌, length};
 ghost use Rattle.hbc_table_strings.specs.Row.{string_width};
 ghost use Rattle.hbc_text.specs.StringText.{is_wide, StringText};

@@ -1,4 +1,6 @@
 // The text of bytes in UTF-16 little-endian, written whole or not at all: whether it fits is known before any of it is written.
+#![tactic(auto)]
+
 ghost use Rattle.std.specs.Prelude.{◌≡◌, ◌+◌, ◌%◌, ◌≤◌, ◌<◌, leb, length};
 ghost use Rattle.std.proofs.lemmas.List.Edits.{sets};
 ghost use Rattle.hbc_io.specs.Outcome.{limit};
@@ -11,7 +13,7 @@ use hbc_io::{LIMIT, refuse};
 use hbc_text_forms::Text;
 
 // One scalar value, and how many bytes it was read from.
-#[derive(Drop)]
+#[derive(Clone, Copy)]
 struct Code {
     taken: usize,
     scalar: u32,

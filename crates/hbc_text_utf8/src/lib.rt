@@ -1,5 +1,7 @@
 // The text of bytes in UTF-8. Most bytes are characters, which are their own text: they are passed in one loop and copied at once,
 // and what is not is taken part by part. Nothing is written before it is known that there is room.
+#![tactic(auto)]
+
 ghost use Rattle.std.specs.Prelude.{◌≡◌, length, leb};
 ghost use Rattle.hbc_text_forms.specs.Utf8.{utf8_text};
 ghost use Rattle.hbc_text_forms.specs.Text.{says_text, text_answer, put_answer, PutText};

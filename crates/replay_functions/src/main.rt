@@ -1,6 +1,8 @@
 // Replays recorded answers of the published Rust, and DWARF's worked examples, from standard input (docs/RECORDS.md has the form of a record): the calls of
 // the cursor layer, of functions, and of handlers and sections. Makes each call, and says for each group how many records there are and how many were
 // answered otherwise.
+#![tactic(auto)]
+
 mod cursor;
 mod function;
 mod parsing;

@@ -1,5 +1,7 @@
 // Replays recorded answers of the published Rust from standard input (docs/RECORDS.md has the form of a record): the calls of strings, of literals, of debug
 // data and of bundles. Makes each call, and says for each group how many records there are and how many were answered otherwise.
+#![tactic(auto)]
+
 mod buffer;
 mod clean;
 mod debug;
