@@ -18,7 +18,7 @@ returns-in-Refused c =
     let h = found says_head c.read_head.ensures.result_value c.in-Refused.is in
     let e = scope_refused _ _ _ _ h in
     let x = sym (ap mark_of c.in-Refused.is) ∙ c.read_head.ensures.result_value_2 in
-    (record { scopes_are = counted_stop e c.loop-left.invariant.0; names_are = summed_stop e c.loop-left.invariant.1 }, marked_stop c.loop-left-test.true e (stop_mark _ _ _ _ h x) c.loop-left.invariant.4)
+    record { scopes_are = record { scopes_are = counted_stop e c.loop-left.invariant.0; names_are = summed_stop e c.loop-left.invariant.1 }; exact_value = marked_stop c.loop-left-test.true e (stop_mark _ _ _ _ h x) c.loop-left.invariant.4 }
 
 pub overflow_add-n : goal.overflow_add-n
 overflow_add-n c = omega (arith, c.loop-left.invariant.0.most)
@@ -43,4 +43,4 @@ loop-left-preserved c =
 
 pub returns : goal.returns
 returns c =
-    (record { scopes_are = counted_done c.loop-left-test.false c.loop-left.invariant.0; names_are = summed_done c.loop-left-test.false c.loop-left.invariant.1 }, marked_done c.loop-left-test.false c.loop-left.invariant.4)
+    record { scopes_are = record { scopes_are = counted_done c.loop-left-test.false c.loop-left.invariant.0; names_are = summed_done c.loop-left-test.false c.loop-left.invariant.1 }; exact_value = marked_done c.loop-left-test.false c.loop-left.invariant.4 }

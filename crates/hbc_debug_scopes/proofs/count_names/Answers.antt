@@ -16,7 +16,7 @@ returns-in-Refused c =
     let e = found says_held c.read_sleb128_bits.ensures c.in-Refused.is in
     let more = c.loop-left-test.true in
     let f = bits_refused _ _ _ _ e in
-    (ends_stop more f c.loop-left.invariant.0, sym (and_true _) ∙ marked_stop more f (name_failed _ _ _ _ e) c.loop-left.invariant.1)
+    record { ended = ends_stop more f c.loop-left.invariant.0; exact_value = sym (and_true _) ∙ marked_stop more f (name_failed _ _ _ _ e) c.loop-left.invariant.1 }
 
 pub overflow_add-n : goal.overflow_add-n
 overflow_add-n c = omega (arith, c.loop-left.invariant.0.most)
@@ -29,4 +29,4 @@ loop-left-preserved c =
     (ends_on more g.is c.loop-left.invariant.0, marked_on more g.is (name_mark _ _ _ _ e) c.loop-left.invariant.1)
 
 pub returns : goal.returns
-returns c = (ends_done c.loop-left-test.false c.loop-left.invariant.0, marked_done c.loop-left-test.false c.loop-left.invariant.1)
+returns c = record { ended = ends_done c.loop-left-test.false c.loop-left.invariant.0; exact_value = marked_done c.loop-left-test.false c.loop-left.invariant.1 }

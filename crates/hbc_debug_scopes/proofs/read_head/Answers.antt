@@ -17,25 +17,25 @@ returns-then-count-s c =
     let p = found says_held c.read_sleb128_bits.ensures c.in-Got.is in
     let f = found says_held c.read_sleb128_bits-in-Got.ensures c.in-Got-read_sleb128_bits.is in
     let k = found says_held c.read_sleb128_bits-in-Got-read_sleb128_bits.ensures c.in-Got-read_sleb128_bits-2.is in
-    (head_4 c.args.s.now c.args.c _ _ p _ _ f _ _ k (omega (arith, c.well_formed)) _ c.if-count-s.true c.word_below.ensures, mark_4 _ _ _ _ p _ _ f _ _ k)
+    record { result_value = head_4 c.args.s.now c.args.c _ _ p _ _ f _ _ k (omega (arith, c.well_formed)) _ c.if-count-s.true c.word_below.ensures; result_value_2 = mark_4 _ _ _ _ p _ _ f _ _ k }
 
 pub returns-in-Refused : goal.returns-in-Refused
 returns-in-Refused c =
     let r = found says_held c.read_sleb128_bits.ensures c.in-Refused.is in
-    (head_1 c.args.s.now c.args.c _ _ r, mark_1 _ _ _ _ r)
+    record { result_value = head_1 c.args.s.now c.args.c _ _ r; result_value_2 = mark_1 _ _ _ _ r }
 
 pub returns-in-Refused-read_sleb128_bits : goal.returns-in-Refused-read_sleb128_bits
 returns-in-Refused-read_sleb128_bits c =
     let p = found says_held c.read_sleb128_bits.ensures c.in-Got.is in
     let r = found says_held c.read_sleb128_bits-in-Got.ensures c.in-Refused-read_sleb128_bits.is in
-    (head_2 c.args.s.now c.args.c _ _ p _ _ r, mark_2 _ _ _ _ p _ _ r)
+    record { result_value = head_2 c.args.s.now c.args.c _ _ p _ _ r; result_value_2 = mark_2 _ _ _ _ p _ _ r }
 
 pub returns-in-Refused-read_sleb128_bits-2 : goal.returns-in-Refused-read_sleb128_bits-2
 returns-in-Refused-read_sleb128_bits-2 c =
     let p = found says_held c.read_sleb128_bits.ensures c.in-Got.is in
     let f = found says_held c.read_sleb128_bits-in-Got.ensures c.in-Got-read_sleb128_bits.is in
     let r = found says_held c.read_sleb128_bits-in-Got-read_sleb128_bits.ensures c.in-Refused-read_sleb128_bits-2.is in
-    (head_3 c.args.s.now c.args.c _ _ p _ _ f _ _ r, mark_3 _ _ _ _ p _ _ f _ _ r)
+    record { result_value = head_3 c.args.s.now c.args.c _ _ p _ _ f _ _ r; result_value_2 = mark_3 _ _ _ _ p _ _ f _ _ r }
 
 pub returns-else-count-s : goal.returns-else-count-s
 returns-else-count-s c =
@@ -43,4 +43,4 @@ returns-else-count-s c =
     let f = found says_held c.read_sleb128_bits-in-Got.ensures c.in-Got-read_sleb128_bits.is in
     let k = found says_held c.read_sleb128_bits-in-Got-read_sleb128_bits.ensures c.in-Got-read_sleb128_bits-2.is in
     let q = ap (λ (x : Refusal). refused x c.in-Got-read_sleb128_bits-2.c3) c.refuse.ensures in
-    (q ∙ head_5 c.args.s.now c.args.c _ _ p _ _ f _ _ k (omega (arith, c.well_formed)) c.if-count-s.false, mark_4 _ _ _ _ p _ _ f _ _ k)
+    record { result_value = q ∙ head_5 c.args.s.now c.args.c _ _ p _ _ f _ _ k (omega (arith, c.well_formed)) c.if-count-s.false; result_value_2 = mark_4 _ _ _ _ p _ _ f _ _ k }

@@ -17,7 +17,7 @@ shape_of-names-in-Refused c = c.loop-left.invariant.1.size
 pub returns-in-Refused : goal.returns-in-Refused
 returns-in-Refused c =
     let e = found says_held c.read_sleb128_bits.ensures c.in-Refused.is in
-    (ends_stop c.loop-left-test.true (bits_refused _ _ _ _ e) c.loop-left.invariant.0, written_stop (bits_refused _ _ _ _ e) c.loop-left.invariant.1)
+    record { ended = ends_stop c.loop-left-test.true (bits_refused _ _ _ _ e) c.loop-left.invariant.0; names_after = written_stop (bits_refused _ _ _ _ e) c.loop-left.invariant.1 }
 
 pub overflow_add-n : goal.overflow_add-n
 overflow_add-n c = omega (arith, c.loop-left.invariant.0.most)
@@ -36,4 +36,4 @@ pub shape_of-names : goal.shape_of-names
 shape_of-names c = c.loop-left.invariant.1.size
 
 pub returns : goal.returns
-returns c = (ends_done c.loop-left-test.false c.loop-left.invariant.0, written_done c.loop-left-test.false c.loop-left.invariant.1)
+returns c = record { ended = ends_done c.loop-left-test.false c.loop-left.invariant.0; names_after = written_done c.loop-left-test.false c.loop-left.invariant.1 }
