@@ -1,4 +1,4 @@
-"""What tools/house and tools/moved read: the tree, crates.txt, the declarations of .antt files, the functions of .rt files."""
+"""What the tools share: the tree, crates.txt, the declarations of .antt files, the functions of .rt files, how many checks the machine can do."""
 import io, os, pathlib, re, subprocess, tarfile
 from collections import namedtuple
 
@@ -195,3 +195,12 @@ def functions(crate, path, text):
 
 def functions_of(tree, crate):
     return [f for p, t in part(tree, crate, 'src').items() if p.endswith('.rt') for f in functions(crate, p, t)]
+
+
+# ---- the machine
+
+
+def lanes():
+    """how many `rt` side by side: each takes two processors and some gigabytes"""
+    free = re.search(r'MemAvailable:\s+(\d+)', pathlib.Path('/proc/meminfo').read_text())
+    return max(1, min(len(os.sched_getaffinity(0)) // 2, int(free.group(1)) // 5_000_000))
