@@ -8,8 +8,8 @@ string-bytes-requires : tie.Need-string-bytes-requires
 string-bytes-requires c κs = search rules
 
 -- src/lib.rt:49:52
-is-wide-requires : tie.Need-is-wide-requires
-is-wide-requires c κs = search rules
+is-marked-requires : tie.Need-is-marked-requires
+is-marked-requires c κs = search rules
 
 -- src/lib.rt:49:5
 escaped-length-requires : tie.Need-escaped-length-requires
@@ -17,8 +17,8 @@ escaped-length-requires c κs = search rules
 
 -- src/lib.rt:45:1
 returns : tie.Need-returns
-returns c = inside_says _ _ _ c.before.is_IsWide.ensures c.before.before.string_bytes.ensures.bytes c.before.before.before.before.before.requires _ c.escaped_length.result c.escaped_length.ensures
+returns c = inside_says _ _ _ c.before.is_marked.ensures c.before.before.string_bytes.ensures.bytes c.before.before.before.before.before.requires _ c.escaped_length.result c.escaped_length.ensures
 
 pub inside-length-spec : {M : Type 1} → statement M
 inside-length-spec =
-    tie.close (tie.spec string-bytes-requires is-wide-requires escaped-length-requires returns)
+    tie.close (tie.spec string-bytes-requires is-marked-requires escaped-length-requires returns)

@@ -8,8 +8,8 @@ string-bytes-requires : tie.Need-string-bytes-requires
 string-bytes-requires c κs = search rules
 
 -- src/lib.rt:85:56
-is-wide-requires : tie.Need-is-wide-requires
-is-wide-requires c κs = search rules
+is-marked-requires : tie.Need-is-marked-requires
+is-marked-requires c κs = search rules
 
 -- src/lib.rt:85:74
 sub-escaped-text : tie.Need-overflow-sub-escaped-text
@@ -41,7 +41,7 @@ same_length c = search rules
 
 -- src/lib.rt:81:1
 returns : tie.Need-returns
-returns c = inside_put c.before.before.before.before.before.before.before.before.before.before.before.before.args.storage.now c.before.before.before.before.before.before.before.before.before.before.before.before.args.rows.now c.before.before.before.before.before.before.before.before.before.before.before.before.args.k c.before.before.before.before.before.before.before.is_IsWide.ensures c.before.before.before.before.before.before.before.before.string_bytes.ensures.bytes c.before.before.before.before.before.before.before.before.before.before.before.before.requires.0 c.before.before.before.before.before.before.before.before.before.before.before.before.args.out.now c.before.before.before.before.before.before.before.before.before.before.before.before.args.at c.before.before.before.before.before.before.before.before.before.before.before.before.requires.1 c.before.before.before.before.before.escaped-text.ensures c.before.n.given.0.0 c.before.n.given.1
+returns c = inside_put c.before.before.before.before.before.before.before.before.before.before.before.before.args.storage.now c.before.before.before.before.before.before.before.before.before.before.before.before.args.rows.now c.before.before.before.before.before.before.before.before.before.before.before.before.args.k c.before.before.before.before.before.before.before.is_marked.ensures c.before.before.before.before.before.before.before.before.string_bytes.ensures.bytes c.before.before.before.before.before.before.before.before.before.before.before.before.requires.0 c.before.before.before.before.before.before.before.before.before.before.before.before.args.out.now c.before.before.before.before.before.before.before.before.before.before.before.before.args.at c.before.before.before.before.before.before.before.before.before.before.before.before.requires.1 c.before.before.before.before.before.escaped-text.ensures c.before.n.given.0.0 c.before.n.given.1
 
 -- src/lib.rt:81:1
 same-length-2 : tie.Need-same-length-2
@@ -49,14 +49,14 @@ same-length-2 c = search rules
 
 -- src/lib.rt:81:1
 returns-2 : tie.Need-returns-2
-returns-2 c = absurd (inside_refused c.before.before.before.before.before.before.before.before.before.before.before.args.storage.now c.before.before.before.before.before.before.before.before.before.before.before.args.rows.now c.before.before.before.before.before.before.before.before.before.before.before.args.k c.before.before.before.before.before.before.is_IsWide.ensures c.before.before.before.before.before.before.before.string_bytes.ensures.bytes c.before.before.before.before.before.before.before.before.before.before.before.requires.0 c.before.before.before.before.before.before.before.before.before.before.before.args.out.now c.before.before.before.before.before.before.before.before.before.before.before.args.at c.before.before.before.before.before.before.before.before.before.before.before.requires.1 c.before.before.before.before.escaped-text.ensures c.enum_told.given.1)
+returns-2 c = absurd (inside_refused c.before.before.before.before.before.before.before.before.before.before.before.args.storage.now c.before.before.before.before.before.before.before.before.before.before.before.args.rows.now c.before.before.before.before.before.before.before.before.before.before.before.args.k c.before.before.before.before.before.before.is_marked.ensures c.before.before.before.before.before.before.before.string_bytes.ensures.bytes c.before.before.before.before.before.before.before.before.before.before.before.requires.0 c.before.before.before.before.before.before.before.before.before.before.before.args.out.now c.before.before.before.before.before.before.before.before.before.before.before.args.at c.before.before.before.before.before.before.before.before.before.before.before.requires.1 c.before.before.before.before.escaped-text.ensures c.enum_told.given.1)
 
 pub put-inside-spec : {M : Type 1} → statement M
 put-inside-spec =
     tie.close
     (tie.spec
     string-bytes-requires
-    is-wide-requires
+    is-marked-requires
     sub-escaped-text
     part-escaped-text-start
     part-escaped-text-end
