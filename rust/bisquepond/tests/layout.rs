@@ -1062,10 +1062,10 @@ fn written(lists: [&[Field]; 2]) -> (String, String) {
     let (mut code, mut specs) = (String::new(), String::new());
     for (name, list) in ["legacy", "modern"].into_iter().zip(lists) {
         code += &format!("pub const {}: Bits = Bits {{\n", name.to_uppercase());
-        specs += &format!("{name}Bits = record {{\n");
+        specs += &format!("{name}_bits = record {{\n");
         for Field { name, first, width } in list {
             code += &format!("    {name}: Field({first}, {width}),\n");
-            specs += &format!("  «{name}» = at {first} {width};\n");
+            specs += &format!("  {name} = at {first} {width};\n");
         }
         code += "};\n";
         specs += "}\n";
