@@ -151,6 +151,7 @@ decoded_at (there (there (there (there (there (there (there here))))))) (more {b
     code_4 a b d e (omega arith) (omega arith) p q r u v w (omega arith) (omega arith)
 decoded_at (there (there (there (there (there (there (there (there here)))))))) (more {b = a} h l (more {b} p q (more {b = d} r u (more {b = e} v w none)))) =
     code_4 a b d e (omega arith) l p (omega arith) r u v w (omega arith) (omega arith)
+decoded_at {row = row} {c = c} (there (there (there (there (there (there (there (there (there k))))))))) _ = elim k [ ]
 
 -- no row takes a surrogate, an overlong form or a number past the last code point
 pub decoded : {c : List ℕ} → Character c → Decoded c
