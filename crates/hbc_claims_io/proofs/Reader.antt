@@ -9,7 +9,7 @@ use prog.Routine.{Routine}
 use types.Logic.{Logic}
 use contract.Lifetimes.{Lfts}
 use contract.Monad.{Fun, fact}
-use denote.Ref.{Bor}
+use Rattle.std.specs.Borrow.{Bor, MutBor}
 use denote.Triple.Both.{Both}
 use Rattle.hbc_io.specs.declared.Moved.{Moved}
 use Rattle.hbc_io.specs.declared.ReadU32.{ReadU32}
@@ -28,7 +28,7 @@ use Rattle.hbc_reader.specs.contracts.ByteReader.part as of_part
 use Rattle.hbc_io.proofs.Alone.{one_u32, one_span, one_moved, one_part}
 use Rattle.hbc_io_leb.proofs.Alone.{one_uleb}
 use Rattle.hbc_claims_law.proofs.Law.{same}
-use Rattle.hbc_claims_io.specs.Reader.{Lent, New, Position, Remaining, Seek, U32, Uleb128, Bytes, Part, Unique}
+use Rattle.hbc_claims_io.specs.Reader.{Lent, LentMut, New, Position, Remaining, Seek, U32, Uleb128, Bytes, Part, Unique}
 
 -- ---- each clause is its fact
 
@@ -42,18 +42,18 @@ module _ {M : Type 1} {𝓤 : Ura M} (𝓛 : Logic 𝓤) (mem : Memory → SProp
   pub remaining_clause : (κs : Lfts 2) (a : Bor ByteReader) (b : Lent) (r : ℕ) → of_remaining.ensures-1 𝓛 κs mem run a b r ≡ fact 𝓤 (Remaining b.entry.now r)
   remaining_clause κs a b r = refl
 
-  pub seek_clause : (κs : Lfts 2) (a : Bor ByteReader) (to : ℕ) (b : Lent) (t : Both ℕ ℕ) (r : Moved)
+  pub seek_clause : (κs : Lfts 2) (a : MutBor ByteReader) (to : ℕ) (b : LentMut) (t : Both ℕ ℕ) (r : Moved)
       → of_seek.ensures-1 𝓛 κs mem run a to b t r ≡ fact 𝓤 (Seek to b.entry.now r b.exit.now)
   seek_clause κs a to b t r = refl
 
-  pub read_u32_clause : (κs : Lfts 2) (a : Bor ByteReader) (b : Lent) (r : ReadU32) → of_read_u32.ensures-1 𝓛 κs mem run a b r ≡ fact 𝓤 (U32 b.entry.now r b.exit.now)
+  pub read_u32_clause : (κs : Lfts 2) (a : MutBor ByteReader) (b : LentMut) (r : ReadU32) → of_read_u32.ensures-1 𝓛 κs mem run a b r ≡ fact 𝓤 (U32 b.entry.now r b.exit.now)
   read_u32_clause κs a b r = refl
 
-  pub read_uleb128_clause : (κs : Lfts 2) (a : Bor ByteReader) (b : Lent) (r : ReadUleb)
+  pub read_uleb128_clause : (κs : Lfts 2) (a : MutBor ByteReader) (b : LentMut) (r : ReadUleb)
       → of_read_uleb128.ensures-1 𝓛 κs mem run a b r ≡ fact 𝓤 (Uleb128 b.entry.now r b.exit.now)
   read_uleb128_clause κs a b r = refl
 
-  pub read_bytes_clause : (κs : Lfts 2) (a : Bor ByteReader) (n : ℕ) (b : Lent) (t : Both ℕ ℕ) (r : ReadSpan)
+  pub read_bytes_clause : (κs : Lfts 2) (a : MutBor ByteReader) (n : ℕ) (b : LentMut) (t : Both ℕ ℕ) (r : ReadSpan)
       → of_read_bytes.ensures-1 𝓛 κs mem run a n b t r ≡ fact 𝓤 (Bytes n b.entry.now r b.exit.now)
   read_bytes_clause κs a n b t r = refl
 

@@ -2,7 +2,7 @@
 -- A method over a reader is proved by hand, and the checker makes no plain reading of its contract: each contract is set out here as one fact,
 -- and the page of hbc_claims says that the contract's clause is that fact and nothing else (`reader`).
 use Rattle.std.specs.Prelude.{◌≡◌, List, ℕ}
-use Rattle.std.specs.Borrow.{Bor}
+use Rattle.std.specs.Borrow.{Bor, MutBor}
 use denote.Triple.Both.{Both}
 use Rattle.hbc_io.specs.Outcome.{left, valued}
 use Rattle.hbc_io.specs.Plain.{plain_at, seek_to, bytes_at, IsPart}
@@ -22,6 +22,10 @@ use Rattle.hbc_claims_law.specs.Law.{One}
 -- a reader that is lent to a call: as it is given, and as it is left
 abbrev pub Lent : Type 0
 Lent = Both (Bor ByteReader) (Bor ByteReader)
+
+-- the same, by `&mut`
+abbrev pub LentMut : Type 0
+LentMut = Both (MutBor ByteReader) (MutBor ByteReader)
 
 -- ---- the facts
 

@@ -10,6 +10,6 @@ unique = record {
   utf16_text = λ k a r q s u. alone one_text;
   utf8_length = λ k a r q s u e f. one_text r q (e ∙ sym f);
   utf16_length = λ k a r q s u e f. one_text r q (e ∙ sym f);
-  is_wide = λ k a r q s u e f. e ∙ sym f;
+  is_marked = λ k a r q s u e f. e ∙ sym f;
   string_text = λ k a r q s u. alone one_text;
 }

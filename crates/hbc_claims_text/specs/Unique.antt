@@ -3,7 +3,7 @@ use Rattle.hbc_text_utf8.proofs.utf8_text.Reads as of_utf8_text
 use Rattle.hbc_text_utf16.proofs.utf16_text.Reads as of_utf16_text
 use Rattle.hbc_text_utf8.proofs.utf8_length.Reads as of_utf8_length
 use Rattle.hbc_text_utf16.proofs.utf16_length.Reads as of_utf16_length
-use Rattle.hbc_text.proofs.is_wide.Reads as of_is_wide
+use Rattle.hbc_text.proofs.is_marked.Reads as of_is_marked
 use Rattle.hbc_text.proofs.string_text.Reads as of_string_text
 use Rattle.hbc_claims_law.specs.Law.{One, Both}
 
@@ -13,5 +13,5 @@ pub record Unique : Type 0 where
   pub utf16_text : Both of_utf16_text.Learnt (λ s. s.1.0.now)
   pub utf8_length : One of_utf8_length.Learnt
   pub utf16_length : One of_utf16_length.Learnt
-  pub is_wide : One of_is_wide.Learnt
+  pub is_marked : One of_is_marked.Learnt
   pub string_text : Both of_string_text.Learnt (λ s. s.1.1.1.0.now)

@@ -14,7 +14,7 @@ use hbc_io::{LIMIT, refuse};
 use hbc_json_text::{escaped_length, escaped_text};
 use hbc_table_bytes::string_bytes;
 use hbc_table_strings::STRING_WIDTH;
-use hbc_text::is_wide;
+use hbc_text::is_marked;
 use hbc_text_forms::Text;
 
 // Whether there is room for any strings of these lengths: two brackets, and for each string two quotes, a comma and six times its bytes.
@@ -43,7 +43,7 @@ fn inside_length(storage: &[u8], rows: &[u32], k: usize, room: usize) -> Text
     requires { length storage.now ≤ limit }
     ensures { says_text result ≡ text_answer (inside storage.now rows.now k) room }
 {
-    escaped_length(string_bytes(storage, rows, k), is_wide(rows, k), room)
+    escaped_length(string_bytes(storage, rows, k), is_marked(rows, k), room)
 }
 
 // Whether the array fits, measured string by string.
@@ -92,7 +92,7 @@ fn put_inside(storage: &[u8], rows: &[u32], k: usize, out: &mut [u8], at: usize)
 {
     match escaped_text(
         string_bytes(storage, rows, k),
-        is_wide(rows, k),
+        is_marked(rows, k),
         &mut out[at..],
     ) {
         Text::Length(n) => n,

@@ -13,14 +13,22 @@ use hbc_text_forms::Text;
 use hbc_text_utf8::utf8_text;
 use hbc_text_utf16::utf16_text;
 
+// Whether row `index` is marked as UTF-16.
+fn is_wide(rows: &[u32], index: usize) -> bool
+    requires { index * string_width + string_width ≤ length rows.now }
+    ensures { result ≡ is_wide rows.now index }
+{
+    word_of(rows, index * STRING_WIDTH + STRING_MARKS) % 2 == 1
+}
+
 // Whether row `index` is there and marked as UTF-16.
-pub fn is_wide(rows: &[u32], index: usize) -> bool
+pub fn is_marked(rows: &[u32], index: usize) -> bool
     ensures { result ≡ is_wide rows.now index }
 {
     if rows.len() / STRING_WIDTH <= index {
         return false;
     }
-    word_of(rows, index * STRING_WIDTH + STRING_MARKS) % 2 == 1
+    is_wide(rows, index)
 }
 
 // The text in front of what is lent, whole or not at all.

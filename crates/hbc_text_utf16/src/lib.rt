@@ -150,7 +150,7 @@ fn weight(before: u32, u: u32) -> usize
 }
 
 // How many bytes the text has, counted unit by unit without a branch.
-fn measure(s: &[u8]) -> usize
+fn counted(s: &[u8]) -> usize
     requires { (length s.now % 2 ≡ 0) × (length s.now ≤ limit) }
     ensures { result ≡ length (text_of s.now) }
 {
@@ -166,6 +166,14 @@ fn measure(s: &[u8]) -> usize
     n
 }
 
+// Whether the text has at most so many bytes.
+fn measure(s: &[u8], room: usize) -> bool
+    requires { (length s.now % 2 ≡ 0) × (length s.now ≤ limit) }
+    ensures { result ≡ leb (length (text_of s.now)) room }
+{
+    counted(s) <= room
+}
+
 // A text has at most three bytes for each unit: where there is room for those, none are counted.
 fn enough(s: &[u8], room: usize) -> bool
     requires { (length s.now % 2 ≡ 0) × (length s.now ≤ limit) }
@@ -174,7 +182,7 @@ fn enough(s: &[u8], room: usize) -> bool
     if s.len() / 2 <= room / 3 {
         return true;
     }
-    measure(s) <= room
+    measure(s, room)
 }
 
 // The text of an even number of bytes, for which there is room. ASCII and what is no surrogate have their own arms for speed.
@@ -212,7 +220,7 @@ pub fn utf16_length(s: &[u8], room: usize) -> Text
     if s.len() % 2 != 0 {
         return Text::Length(0);
     }
-    let n = measure(s);
+    let n = counted(s);
     if room < n {
         return Text::Refused(refuse(4, 0));
     }

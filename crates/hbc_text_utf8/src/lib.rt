@@ -18,7 +18,7 @@ use hbc_io::{LIMIT, refuse};
 use hbc_text_forms::Text;
 
 // The text's length, or 4 where it is more than the room, counted part by part. The characters from the beginning on end at `first`.
-fn measure(s: &[u8], first: usize, room: usize) -> Text
+fn counted(s: &[u8], first: usize, room: usize) -> Text
     requires { Run s.now 0 first }
     ensures { says_text result ≡ text_answer (utf8_text s.now) room }
 {
@@ -39,7 +39,18 @@ fn measure(s: &[u8], first: usize, room: usize) -> Text
     Text::Length(n)
 }
 
-// Whether the text fits, without counting where there is room for any text: it has at most three bytes for each that is read.
+// Whether the text fits the room, counted part by part. The characters from the beginning on end at `first`.
+fn measure(s: &[u8], first: usize, room: usize) -> bool
+    requires { Run s.now 0 first }
+    ensures { result ≡ leb (length (utf8_text s.now)) room }
+{
+    match counted(s, first, room) {
+        Text::Length(_) => true,
+        Text::Refused(_) => false,
+    }
+}
+
+// The same, without counting where there is room for any text: it has at most three bytes for each that is read.
 fn enough(s: &[u8], first: usize, room: usize) -> bool
     requires { Run s.now 0 first }
     ensures { result ≡ leb (length (utf8_text s.now)) room }
@@ -47,10 +58,7 @@ fn enough(s: &[u8], first: usize, room: usize) -> bool
     if s.len() <= room / 3 {
         return true;
     }
-    match measure(s, first, room) {
-        Text::Length(_) => true,
-        Text::Refused(_) => false,
-    }
+    measure(s, first, room)
 }
 
 // What utf8_text answers into so much room, nothing being written.
@@ -60,7 +68,7 @@ pub fn utf8_length(s: &[u8], room: usize) -> Text
     if LIMIT < s.len() {
         return Text::Refused(refuse(1, 0));
     }
-    measure(s, run(s, blocks(s)), room)
+    counted(s, run(s, blocks(s)), room)
 }
 
 // The text of bytes in front of what is lent, whole or not at all.

@@ -10,25 +10,6 @@ use Rattle.hbc_buffer.proofs.Passes.{passed_first, passed_none, passed_cut, pass
 use Rattle.hbc_buffer.proofs.Going.{empties_from}
 use Rattle.hbc_buffer.proofs.check.Goals as goal
 
--- ---- the places that answers look back to
--- a turn whose tag byte is read, and from there: that more values are asked, the loop's head, the call's start
-abbrev Turn : Type 0
-Turn = goal.After-byte-b
-
-abbrev entered : Turn → goal.In-loop-done
-entered c = c
-
-abbrev head : Turn → goal.At-loop-done
-head c = c
-
-abbrev start : Turn → goal.Start
-start c = c
-
--- the turn of the third arm, from where its run is made out
-abbrev run_turn : goal.After-width_of-w → Turn
-run_turn c = c
-
--- ---- the answers
 pub loop-done-init : goal.loop-done-init
 loop-done-init c = (passed_first _ _ _ c.requires.1, known_first _)
 
@@ -60,8 +41,7 @@ loop-done-preserved-then-empty c =
 
 pub overflow_add-at-then-b-lt48 : goal.overflow_add-at-then-b-lt48
 overflow_add-at-then-b-lt48 c =
-    let turn = c in
-    omega (arith, (head turn).loop.invariant.0.within, (start turn).requires.0)
+    omega (arith, c.loop-done.invariant.0.within, c.requires.0)
 
 pub overflow_add-done : goal.overflow_add-done
 overflow_add-done c = omega (arith, c.least-done.ensures)
@@ -71,95 +51,85 @@ loop-done-smaller-then-b-lt48 c = omega (arith, byte_inside _ _ c.requires.0 c.l
 
 pub loop-done-preserved-then-b-lt48 : goal.loop-done-preserved-then-b-lt48
 loop-done-preserved-then-b-lt48 c =
-    let turn = c in
-    let inv = (head turn).loop.invariant in
-    let some = (entered turn).loop-test.true in
-    let byte = turn.byte-b.ensures.0 in
-    let inside = byte_inside _ _ (start turn).requires.0 inv.0.within (byte) (pos_of_ne-zero (c.empty.ensures.1 c.if-empty.false)) in
-    (none_more inv.0 some (start turn).requires.0 byte c.if-b-lt48.true inside c.bits.ensures c.least-done.ensures, known_on _ inv.1 some)
+    let inv = c.loop-done.invariant in
+    let some = c.loop-done-test.true in
+    let byte = c.byte-b.ensures.0 in
+    let inside = byte_inside _ _ c.requires.0 inv.0.within (byte) (pos_of_ne-zero (c.empty.ensures.1 c.if-empty.false)) in
+    (none_more inv.0 some c.requires.0 byte c.if-b-lt48.true inside c.bits.ensures c.least-done.ensures, known_on _ inv.1 some)
 
 pub overflow_sub-s : goal.overflow_sub-s
 overflow_sub-s c = c.loop-done.invariant.0.within
 
 pub again-requires : goal.again-requires
-again-requires c = let known = (head c).loop.inv.1 in (known.small, known.narrow, omega arith)
+again-requires c = let known = c.loop-done.invariant.1 in (known.small, known.narrow, omega arith)
 
 pub overflow_mul-size : goal.overflow_mul-size
 overflow_mul-size c =
-    let loop = (head c).loop in
-    omega (arith, small_product loop.size loop.wide loop.inv.1.small loop.inv.1.narrow)
+    let loop = c.loop-done in
+    omega (arith, small_product loop.size loop.wide loop.invariant.1.small loop.invariant.1.narrow)
 
 pub overflow_add-size : goal.overflow_add-size
 overflow_add-size c =
-    let loop = (head c).loop in
-    omega (arith, small_product loop.size loop.wide loop.inv.1.small loop.inv.1.narrow)
+    let loop = c.loop-done in
+    omega (arith, small_product loop.size loop.wide loop.invariant.1.small loop.invariant.1.narrow)
 
 pub overflow_add-at-then-again : goal.overflow_add-at-then-again
 overflow_add-at-then-again c =
-    let turn = c in
     let again = c.again.ensures c.if-again.true in
-    omega (arith, again.3, (head turn).loop.invariant.0.within, (start turn).requires.0)
+    omega (arith, again.3, c.loop-done.invariant.0.within, c.requires.0)
 
 pub overflow_add-done-then-again : goal.overflow_add-done-then-again
 overflow_add-done-then-again c =
     let again = c.again.ensures c.if-again.true in
-    omega (arith, again.2, (start c).pre.2)
+    omega (arith, again.2, c.requires.2)
 
 pub past_same-p-requires : goal.past_same-p-requires
 past_same-p-requires c =
-    let turn = c in
-    let pre = (start turn).requires in
-    let some = (entered turn).loop-test.true in
+    let pre = c.requires in
+    let some = c.loop-done-test.true in
     let again = c.again.ensures c.if-again.true in (
       pre.0,
-      omega (arith, again.3, (head turn).loop.invariant.0.within),
+      omega (arith, again.3, c.loop-done.invariant.0.within),
       omega (arith, again.2, some),
       pre.2,
-      rw again.0 (known_on _ (head turn).loop.invariant.1 some),
+      rw again.0 (known_on _ c.loop-done.invariant.1 some),
     )
 
 pub loop-done-smaller-then-again : goal.loop-done-smaller-then-again
 loop-done-smaller-then-again c =
-    let turn = c in
     let again = c.again.ensures c.if-again.true in
     omega (arith, again.3, c.past_same-p.ensures.up, c.past_same-p.ensures.within)
 
 pub loop-done-preserved-then-again : goal.loop-done-preserved-then-again
 loop-done-preserved-then-again c =
-    let turn = c in
-    let inv = (head turn).loop.invariant in
-    let some = (entered turn).loop-test.true in
+    let inv = c.loop-done.invariant in
+    let some = c.loop-done-test.true in
     let again = c.again.ensures c.if-again.true in
-    (c.past_same-p.ensures.on _ (again_more inv.0 some (start turn).requires.0 inv.1 turn.byte-b.ensures.0 0 again), known_on _ inv.1 some)
+    (c.past_same-p.ensures.on _ (again_more inv.0 some c.requires.0 inv.1 c.byte-b.ensures.0 0 again), known_on _ inv.1 some)
 
 pub overflow_add-first : goal.overflow_add-first
 overflow_add-first c =
-    let turn = c in
-    omega (arith, (head turn).loop.invariant.0.within, (start turn).requires.0)
+    omega (arith, c.loop-done.invariant.0.within, c.requires.0)
 
 pub overflow_add-first-else-again : goal.overflow_add-first-else-again
 overflow_add-first-else-again c =
-    let turn = c in
-    let high = field_lt 1 7 1 turn.byte-b.result (omega arith) in
-    omega (arith, (head turn).loop.invariant.0.within, (start turn).requires.0, c.bits-else-again.ensures, high)
+    let high = field_lt 1 7 1 c.byte-b.result (omega arith) in
+    omega (arith, c.loop-done.invariant.0.within, c.requires.0, c.bits-else-again.ensures, high)
 
 pub overflow_cast-done-then-s-first : goal.overflow_cast-done-then-s-first
 overflow_cast-done-then-s-first c =
-    let turn = c in
-    omega (arith, (entered turn).loop-test.true, (start turn).requires.2)
+    omega (arith, c.loop-done-test.true, c.requires.2)
 
 pub returns-then-s-first : goal.returns-then-s-first
 returns-then-s-first c =
-    let turn = c in
-    let inv = (head turn).loop.invariant in
+    let inv = c.loop-done.invariant in
     let high = c.bits-else-again.ensures in
-    let cut = tag_cut _ _ (start turn).requires.0 turn.byte-b.ensures.0 refl high inv.0.within c.if-s-first.true in
-    rw c.refuse-then-s-first.ensures (passed_none inv.0 (entered turn).loop-test.true cut.0 cut.1)
+    let cut = tag_cut _ _ c.requires.0 c.byte-b.ensures.0 refl high inv.0.within c.if-s-first.true in
+    rw c.refuse-then-s-first.ensures (passed_none inv.0 c.loop-done-test.true cut.0 cut.1)
 
 pub overflow_add-at-else-again : goal.overflow_add-at-else-again
 overflow_add-at-else-again c =
-    let turn = c in
-    omega (arith, (head turn).loop.invariant.0.within, (start turn).requires.0)
+    omega (arith, c.loop-done.invariant.0.within, c.requires.0)
 
 pub length_of-requires : goal.length_of-requires
 length_of-requires c = c.byte.ensures.1
@@ -170,8 +140,8 @@ overflow_sub-room c = c.if-s-first.false
 pub overflow_mul-n : goal.overflow_mul-n
 overflow_mul-n c =
     let few = c.least-n in
-    let most : few.result < 4294967296 = omega (arith, few.ensures, (start (run_turn c)).pre.2) in
-    omega (arith, small_product few.result c.width_of.result most (rw c.width_of.ensures (width_most _)))
+    let most : few.result < 4294967296 = omega (arith, few.ensures, c.requires.2) in
+    omega (arith, small_product few.result c.width_of-w.result most (rw c.width_of-w.ensures (width_most _)))
 
 pub nonzero_div-room : goal.nonzero_div-room
 nonzero_div-room c = positive c.least-n.result _ _ c.if-room-n.true
@@ -184,32 +154,29 @@ overflow_add-done-then-room-n c =
 pub overflow_cast-done-then-room-n : goal.overflow_cast-done-then-room-n
 overflow_cast-done-then-room-n c =
     let few = c.least-n in
-    omega (arith, quotient few.result _ _ c.if-room-n.true, few.ensures, (start (run_turn c)).pre.2)
+    omega (arith, quotient few.result _ _ c.if-room-n.true, few.ensures, c.requires.2)
 
 pub returns-then-room-n : goal.returns-then-room-n
 returns-then-room-n c =
-    let run = c in
-    let turn = run_turn run in
-    let inv = (head turn).loop.inv in
-    let pre = (start turn).pre in
-    let some = (entered turn).loop-test.taken in
-    let high = run.bits-else-again.ensures in
-    let second = run.byte.ensures.0 in
-    let len = run.length_of.ensures in
-    let there = tag_there _ _ pre.0 turn.byte.ensures.0 refl high second len run.if-s-first.false in
-    let few = run.least-n.ensures in
-    let wide = run.width_of.ensures in
+    let inv = c.loop-done.invariant in
+    let pre = c.requires in
+    let some = c.loop-done-test.true in
+    let high = c.bits-else-again.ensures in
+    let second = c.byte.ensures.0 in
+    let len = c.length_of.ensures in
+    let there = tag_there _ _ pre.0 c.byte-b.ensures.0 refl high second len c.if-s-first.false in
+    let few = c.least-n.ensures in
+    let wide = c.width_of-w.ensures in
     rw (c.refuse-then-room-n.ensures, wide) (passed_cut inv.0 some pre.0 there _ few (rw (← wide) c.if-room-n.true))
 
 pub overflow_mul-at : goal.overflow_mul-at
 overflow_mul-at c =
-    let run = c in
-    let few = run.least-n in
-    let most : few.result < 4294967296 = omega (arith, few.ensures, (start (run_turn run)).pre.2) in
-    omega (arith, small_product few.result run.width_of.result most (rw run.width_of.ensures (width_most _)))
+    let few = c.least-n in
+    let most : few.result < 4294967296 = omega (arith, few.ensures, c.requires.2) in
+    omega (arith, small_product few.result c.width_of-w.result most (rw c.width_of-w.ensures (width_most _)))
 
 pub overflow_add-at-else-again-2 : goal.overflow_add-at-else-again-2
-overflow_add-at-else-again-2 c = omega (arith, c.if-room-n.false, c.if-s-first.false, (start (run_turn c)).pre.0)
+overflow_add-at-else-again-2 c = omega (arith, c.if-room-n.false, c.if-s-first.false, c.requires.0)
 
 pub overflow_add-done-else-again : goal.overflow_add-done-else-again
 overflow_add-done-else-again c = omega (arith, c.least-n.ensures)
@@ -219,17 +186,15 @@ loop-done-smaller c = omega (arith, c.if-room-n.false, c.if-s-first.false)
 
 pub loop-done-preserved : goal.loop-done-preserved
 loop-done-preserved c =
-    let run = c in
-    let turn = run_turn run in
-    let inv = (head turn).loop.inv in
-    let pre = (start turn).pre in
-    let some = (entered turn).loop-test.taken in
-    let high = run.bits-else-again.ensures in
-    let second = run.byte.ensures.0 in
-    let len = run.length_of.ensures in
-    let there = tag_there _ _ pre.0 turn.byte.ensures.0 refl high second len run.if-s-first.false in
-    let few = run.least-n.ensures in
-    let wide = run.width_of.ensures in
+    let inv = c.loop-done.invariant in
+    let pre = c.requires in
+    let some = c.loop-done-test.true in
+    let high = c.bits-else-again.ensures in
+    let second = c.byte.ensures.0 in
+    let len = c.length_of.ensures in
+    let there = tag_there _ _ pre.0 c.byte-b.ensures.0 refl high second len c.if-s-first.false in
+    let few = c.least-n.ensures in
+    let wide = c.width_of-w.ensures in
     (rw wide (passed_more inv.0 some pre.0 there _ few (rw (← wide) c.if-room-n.false)), known_next _ _ some pre.2 len few wide)
 
 pub overflow_sub-result : goal.overflow_sub-result

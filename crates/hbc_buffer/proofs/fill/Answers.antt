@@ -22,9 +22,9 @@ pub returns-then-n-w : goal.returns-then-n-w
 returns-then-n-w c =
     let wrote = c.fill_short.ensures in
     let kind = c.kind-k in
-    (rw (← kind.ensures) wrote.0, rw (← c.requires.2) wrote.1)
+    record { kinds_after = rw (← kind.ensures) wrote.kinds_after; payloads_after = rw (← c.requires.2) wrote.payloads_after }
 
 pub returns : goal.returns
 returns c =
     let kind = c.kind-k in
-    (rw (← kind.ensures) c.fill_kinds.ensures, c.fill_run.ensures.1)
+    record { kinds_after = rw (← kind.ensures) c.fill_kinds.ensures; payloads_after = c.fill_run.ensures.1 }

@@ -38,4 +38,4 @@ pub shape_of-payloads : goal.shape_of-payloads
 shape_of-payloads c = ap length c.loop-i.invariant.2 ∙ from_length _ _ _ _
 
 pub returns : goal.returns
-returns c = let e : c.loop-i.i ≡ c.args.n = omega arith in (rw e at c.loop-i.invariant.1, rw e at c.loop-i.invariant.2)
+returns c = let e : c.loop-i.i ≡ c.args.n = omega arith in record { kinds_after = rw e at c.loop-i.invariant.1; payloads_after = rw e at c.loop-i.invariant.2 }

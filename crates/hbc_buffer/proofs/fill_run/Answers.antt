@@ -1,3 +1,4 @@
+use native.Mathlib.Omega.{arith}
 use Rattle.hbc_buffer_literal.specs.Literal.{width_of}
 use Rattle.hbc_buffer_literal.proofs.Laws.{width_none}
 use Rattle.hbc_buffer.proofs.fill_run.Goals as goal
@@ -19,7 +20,7 @@ fill_payloads-requires-in-7 c = rw (← c.in-7.is) c.requires
 
 pub fill_payloads-requires-in_default : goal.fill_payloads-requires-in_default
 unfolding width_of
-fill_payloads-requires-in_default c = let r = c.in-3.rest in rw (← width_none r.0.0.0.0.1 r.0.0.0.1 r.0.0.1 r.0.1 r.1) c.requires
+fill_payloads-requires-in_default c = rw (← width_none {t = c.args.tag} (omega arith) (omega arith) (omega arith) (omega arith) (omega arith)) c.requires
 
 pub returns-in-3 : goal.returns-in-3
 returns-in-3 c = rw c.in-3.is c.fill_payloads.ensures
@@ -38,4 +39,4 @@ returns-in-7 c = rw c.in-7.is c.fill_payloads-in-7.ensures
 
 pub returns-in_default : goal.returns-in_default
 unfolding width_of
-returns-in_default c = let r = c.in-3.rest in rw (width_none r.0.0.0.0.1 r.0.0.0.1 r.0.0.1 r.0.1 r.1) c.fill_payloads-in_default.ensures
+returns-in_default c = rw (width_none {t = c.args.tag} (omega arith) (omega arith) (omega arith) (omega arith) (omega arith)) c.fill_payloads-in_default.ensures

@@ -68,4 +68,4 @@ pub returns : goal.returns
 returns c =
     let inv = c.loop-i.invariant in
     let e : c.loop-i.i ≡ c.args.n = omega arith in
-    (rw e at inv.2, rw e at inv.3)
+    record { kinds_after = rw e at inv.2; payloads_after = rw e at inv.3 }

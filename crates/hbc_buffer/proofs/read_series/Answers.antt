@@ -56,7 +56,7 @@ returns-in-Used c =
     past _ _ _ _ (omega arith)
     (leave _ _ _ (ne_eqb _ _ tests.if-count-eq0.false)
     (leave _ _ _ (lt-leb _ _ tests.if-s-from.false)
-    (past _ _ _ _ (omega arith) (past _ _ _ _ (omega arith) (given refl used (pair wrote.0 wrote.1))))))
+    (past _ _ _ _ (omega arith) (past _ _ _ _ (omega arith) (given refl used (pair wrote.kinds_after wrote.payloads_after))))))
 
 pub returns-in-Refused : goal.returns-in-Refused
 unfolding series_answer

@@ -44,8 +44,8 @@ write_same-requires c =
       pre.2,
       rw one at (known_on (c.args.done + c.args.size) pre.3 pre.1),
       c.kind-k.ensures ∙ ap (λ t. kind_of (literal_of t 0)) c.bits.ensures,
-      omega (arith, ap length filled.0 ∙ from_length _ _ _ _, pre.4),
-      omega (arith, ap length filled.1 ∙ from_length _ _ _ _, pre.5),
+      omega (arith, ap length filled.kinds_after ∙ from_length _ _ _ _, pre.4),
+      omega (arith, ap length filled.payloads_after ∙ from_length _ _ _ _, pre.5),
     )
 
 pub returns-then-size-eq1 : goal.returns-then-size-eq1
@@ -58,8 +58,8 @@ returns-then-size-eq1 c =
     let goes = rw e at (goes_once pre.1 pre.0 pre.3 pre.6 pre.7 pre.8 pre.9) in (
       omega (arith, rest.0.up),
       goes_then goes rest.0,
-      writes_then goes (rw e at (kinds_once pre.1 pre.0 pre.3 pre.6 pre.7 pre.8 pre.9 k filled.0)) rest.1,
-      writes_then goes (rw e at (payloads_once pre.1 pre.0 pre.3 pre.6 pre.7 pre.8 pre.9 filled.1)) rest.2,
+      writes_then goes (rw e at (kinds_once pre.1 pre.0 pre.3 pre.6 pre.7 pre.8 pre.9 k filled.kinds_after)) rest.1,
+      writes_then goes (rw e at (payloads_once pre.1 pre.0 pre.3 pre.6 pre.7 pre.8 pre.9 filled.payloads_after)) rest.2,
     )
 
 pub overflow_add-done-2 : goal.overflow_add-done-2
@@ -75,8 +75,8 @@ write_same-requires-2 c =
       pre.2,
       known_on _ pre.3 pre.1,
       c.kind-k.ensures ∙ ap (λ t. kind_of (literal_of t 0)) c.bits.ensures,
-      omega (arith, ap length filled.0 ∙ from_length _ _ _ _, pre.4),
-      omega (arith, ap length filled.1 ∙ from_length _ _ _ _, pre.5),
+      omega (arith, ap length filled.kinds_after ∙ from_length _ _ _ _, pre.4),
+      omega (arith, ap length filled.payloads_after ∙ from_length _ _ _ _, pre.5),
     )
 
 pub returns : goal.returns
@@ -88,6 +88,6 @@ returns c =
     let goes = goes_once pre.1 pre.0 pre.3 pre.6 pre.7 pre.8 pre.9 in (
       omega (arith, rest.0.up),
       goes_then goes rest.0,
-      writes_then goes (kinds_once pre.1 pre.0 pre.3 pre.6 pre.7 pre.8 pre.9 k filled.0) rest.1,
-      writes_then goes (payloads_once pre.1 pre.0 pre.3 pre.6 pre.7 pre.8 pre.9 filled.1) rest.2,
+      writes_then goes (kinds_once pre.1 pre.0 pre.3 pre.6 pre.7 pre.8 pre.9 k filled.kinds_after) rest.1,
+      writes_then goes (payloads_once pre.1 pre.0 pre.3 pre.6 pre.7 pre.8 pre.9 filled.payloads_after) rest.2,
     )

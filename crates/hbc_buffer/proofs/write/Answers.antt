@@ -12,31 +12,6 @@ use Rattle.hbc_buffer.proofs.Passes.{passed_first, passed_more, whole_tag, whole
 use Rattle.hbc_buffer.proofs.Going.{empties_from}
 use Rattle.hbc_buffer.proofs.write.Goals as goal
 
--- ---- the places that answers look back to
--- a turn whose tag byte is read, and from there: that more values are asked, the loop's head, the call's start
-abbrev Turn : Type 0
-Turn = goal.After-bits-tag
-
-abbrev entered : Turn → goal.In-loop-done
-entered c = c
-
-abbrev head : Turn → goal.At-loop-done
-head c = c
-
-abbrev start : Turn → goal.Start
-start c = c
-
--- the turn of each arm, from the arm's end, and of the third from where its run is made out
-abbrev none_turn : goal.After-slice_known-then-b-lt48-2-1 → Turn
-none_turn c = c
-
-abbrev run_turn : goal.After-width_of-w → Turn
-run_turn c = c
-
-abbrev made_out : goal.After-slice_known-else-again-2-1 → goal.After-width_of-w
-made_out c = c
-
--- ---- the answers
 pub returns-then-s-gt-LIMIT : goal.returns-then-s-gt-LIMIT
 returns-then-s-gt-LIMIT c = absurd (omega (arith, c.if-s-gt-LIMIT.true, c.requires.0))
 
@@ -65,34 +40,30 @@ loop-done-preserved-then-empty c =
 
 pub fill_none-requires : goal.fill_none-requires
 fill_none-requires c =
-    let turn = c in
-    let loop = (head turn).loop in
-    let pre = (start turn).requires in
+    let loop = c.loop-done in
+    let pre = c.requires in
     let few = c.least-n.ensures in
-    let some = (entered turn).loop-test.true in
-    (filled_room _ _ _ loop.inv.2 pre.3 (omega (arith, few, some)), filled_room _ _ _ loop.inv.3 pre.4 (omega (arith, few, some)))
+    let some = c.loop-done-test.true in
+    (filled_room _ _ _ loop.invariant.2 pre.3 (omega (arith, few, some)), filled_room _ _ _ loop.invariant.3 pre.4 (omega (arith, few, some)))
 
 pub overflow_add-at-then-b-lt48 : goal.overflow_add-at-then-b-lt48
 overflow_add-at-then-b-lt48 c =
-    let turn = none_turn c in
-    omega (arith, (head turn).loop.inv.0.within, (start turn).pre.0)
+    omega (arith, c.loop-done.invariant.0.within, c.requires.0)
 
 pub overflow_add-done : goal.overflow_add-done
 overflow_add-done c = omega (arith, c.least-n.ensures)
 
 pub loop-done-smaller-then-b-lt48 : goal.loop-done-smaller-then-b-lt48
 loop-done-smaller-then-b-lt48 c =
-    let turn = none_turn c in
-    let pre = (start turn).pre in
-    omega (arith, whole_tag (head turn).loop.inv.0 (entered turn).loop-test.taken pre.0 turn.before.byte.ensures.0 refl pre.5)
+    let pre = c.requires in
+    omega (arith, whole_tag c.loop-done.invariant.0 c.loop-done-test.true pre.0 c.byte-b.ensures.0 refl pre.5)
 
 pub loop-done-preserved-then-b-lt48 : goal.loop-done-preserved-then-b-lt48
 loop-done-preserved-then-b-lt48 c =
-    let turn = none_turn c in
-    let inv = (head turn).loop.inv in
-    let pre = (start turn).pre in
-    let some = (entered turn).loop-test.taken in
-    let byte = turn.before.byte.ensures.0 in
+    let inv = c.loop-done.invariant in
+    let pre = c.requires in
+    let some = c.loop-done-test.true in
+    let byte = c.byte-b.ensures.0 in
     let low = c.if-b-lt48.true in
     let len = c.bits.ensures in
     let few = c.least-n.ensures in
@@ -100,22 +71,21 @@ loop-done-preserved-then-b-lt48 c =
     let here = within_tag _ _ (whole_tag inv.0 some pre.0 byte refl pre.5) in (
       none_more inv.0 some pre.0 byte low here len few,
       known_on _ inv.1 some,
-      filled.0 ∙ none_kinds inv.0 some pre.0 byte low here len few _ turn.bits.ensures c.kind.ensures inv.2,
-      filled.1 ∙ none_payloads inv.0 some pre.0 byte low here len few _ inv.3,
+      filled.kinds_after ∙ none_kinds inv.0 some pre.0 byte low here len few _ c.bits-tag.ensures c.kind.ensures inv.2,
+      filled.payloads_after ∙ none_payloads inv.0 some pre.0 byte low here len few _ inv.3,
     )
 
 pub overflow_sub-s : goal.overflow_sub-s
 overflow_sub-s c = c.loop-done.invariant.0.within
 
 pub again-requires : goal.again-requires
-again-requires c = let known = (head c).loop.inv.1 in (known.small, known.narrow, omega arith)
+again-requires c = let known = c.loop-done.invariant.1 in (known.small, known.narrow, omega arith)
 
 pub repeat-p-requires : goal.repeat-p-requires
 repeat-p-requires c =
-    let turn = c in
-    let inv = (head turn).loop.invariant in
-    let pre = (start turn).requires in
-    let some = (entered turn).loop-test.true in
+    let inv = c.loop-done.invariant in
+    let pre = c.requires in
+    let some = c.loop-done-test.true in
     let again = c.again.ensures c.if-again.true in (
       pre.0,
       some,
@@ -123,7 +93,7 @@ repeat-p-requires c =
       rw again.0 inv.1,
       filled_room _ _ _ inv.2 pre.3 (omega arith),
       filled_room _ _ _ inv.3 pre.4 (omega arith),
-      turn.byte-b.ensures.0,
+      c.byte-b.ensures.0,
       again.1,
       again.2,
       again.3,
@@ -136,120 +106,105 @@ loop-done-smaller-then-again c =
 
 pub loop-done-preserved-then-again : goal.loop-done-preserved-then-again
 loop-done-preserved-then-again c =
-    let turn = c in
-    let inv = (head turn).loop.invariant in
-    let some = (entered turn).loop-test.true in
+    let inv = c.loop-done.invariant in
+    let some = c.loop-done-test.true in
     let repeat = c.repeat-p.ensures in
     (repeat.1.on _ inv.0, known_on _ inv.1 some, repeat.2.on _ _ inv.0 inv.2, repeat.3.on _ _ inv.0 inv.3)
 
 pub overflow_add-first : goal.overflow_add-first
 overflow_add-first c =
-    let turn = c in
-    omega (arith, (head turn).loop.invariant.0.within, (start turn).requires.0)
+    omega (arith, c.loop-done.invariant.0.within, c.requires.0)
 
 pub overflow_add-first-else-again : goal.overflow_add-first-else-again
 overflow_add-first-else-again c =
-    let turn = c in
-    let high = field_lt 1 7 1 turn.byte-b.result (omega arith) in
-    omega (arith, (head turn).loop.invariant.0.within, (start turn).requires.0, c.bits-else-again.ensures, high)
+    let high = field_lt 1 7 1 c.byte-b.result (omega arith) in
+    omega (arith, c.loop-done.invariant.0.within, c.requires.0, c.bits-else-again.ensures, high)
 
 pub overflow_add-at-else-again : goal.overflow_add-at-else-again
 overflow_add-at-else-again c =
-    let turn = c in
-    omega (arith, (head turn).loop.invariant.0.within, (start turn).requires.0)
+    omega (arith, c.loop-done.invariant.0.within, c.requires.0)
 
 pub length_of-requires : goal.length_of-requires
 length_of-requires c = c.byte.ensures.1
 
 pub fill-requires : goal.fill-requires
 fill-requires c =
-    let run = c in
-    let turn = run_turn run in
-    let inv = (head turn).loop.inv in
-    let pre = (start turn).pre in
-    let some = (entered turn).loop-test.taken in
-    let tag = turn.bits.ensures in
-    let high = run.bits-else-again.ensures in
-    let second = run.byte.ensures.0 in
-    let len = run.length_of.ensures in
-    let there = whole_there inv.0 some pre.0 turn.before.byte.ensures.0 tag high second len pre.5 in
-    let few = run.least-n-else-again.ensures in
+    let inv = c.loop-done.invariant in
+    let pre = c.requires in
+    let some = c.loop-done-test.true in
+    let tag = c.bits-tag.ensures in
+    let high = c.bits-else-again.ensures in
+    let second = c.byte.ensures.0 in
+    let len = c.length_of.ensures in
+    let there = whole_there inv.0 some pre.0 c.byte-b.ensures.0 tag high second len pre.5 in
+    let few = c.least-n-else-again.ensures in
     let room = whole_room inv.0 some pre.0 there _ few pre.5 in
     let within = turn_within inv.0 some pre.0 there _ few in (
       pre.0,
       omega (arith, room, within),
-      run.width_of.ensures ∙ ap width_of (sym tag),
+      c.width_of-w.ensures ∙ ap width_of (sym tag),
       filled_room _ _ _ inv.2 pre.3 (omega (arith, few, some)),
       filled_room _ _ _ inv.3 pre.4 (omega (arith, few, some)),
     )
 
 pub overflow_mul-at : goal.overflow_mul-at
 overflow_mul-at c =
-    let run = made_out c in
-    let few = run.before.least2 in
-    let most : few.result < 4294967296 = omega (arith, few.ensures, (start (run_turn run)).pre.2) in
-    omega (arith, small_product few.result run.width_of.result most (rw run.width_of.ensures (width_most _)))
+    let few = c.least-n-else-again in
+    let most : few.result < 4294967296 = omega (arith, few.ensures, c.requires.2) in
+    omega (arith, small_product few.result c.width_of-w.result most (rw c.width_of-w.ensures (width_most _)))
 
 pub overflow_add-at-else-again-2 : goal.overflow_add-at-else-again-2
 overflow_add-at-else-again-2 c =
-    let run = made_out c in
-    let turn = run_turn run in
-    let inv = (head turn).loop.inv in
-    let pre = (start turn).pre in
-    let some = (entered turn).loop-test.taken in
-    let tag = turn.bits.ensures in
-    let high = run.before.before.before.before.bits3.ensures in
-    let second = run.before.before.before.byte2.ensures.0 in
-    let len = run.before.before.length-of.ensures in
-    let there = whole_there inv.0 some pre.0 turn.before.byte.ensures.0 tag high second len pre.5 in
-    let few = run.before.least2.ensures in
+    let inv = c.loop-done.invariant in
+    let pre = c.requires in
+    let some = c.loop-done-test.true in
+    let tag = c.bits-tag.ensures in
+    let high = c.bits-else-again.ensures in
+    let second = c.byte.ensures.0 in
+    let len = c.length_of.ensures in
+    let there = whole_there inv.0 some pre.0 c.byte-b.ensures.0 tag high second len pre.5 in
+    let few = c.least-n-else-again.ensures in
     let room = whole_room inv.0 some pre.0 there _ few pre.5 in
     let within = turn_within inv.0 some pre.0 there _ few in
-    rw (run.width_of.ensures ∙ ap width_of (sym tag)) (omega (arith, room, within, pre.0))
+    rw (c.width_of-w.ensures ∙ ap width_of (sym tag)) (omega (arith, room, within, pre.0))
 
 pub overflow_add-done-else-again : goal.overflow_add-done-else-again
 overflow_add-done-else-again c =
-    let run = made_out c in
-    let turn = run_turn run in
-    omega (arith, run.before.least2.ensures, (entered turn).loop-test.taken, (start turn).pre.2)
+    omega (arith, c.least-n-else-again.ensures, c.loop-done-test.true, c.requires.2)
 
 pub loop-done-smaller : goal.loop-done-smaller
 loop-done-smaller c =
-    let run = made_out c in
-    let turn = run_turn run in
-    let inv = (head turn).loop.inv in
-    let pre = (start turn).pre in
-    let some = (entered turn).loop-test.taken in
-    let tag = turn.bits.ensures in
-    let high = run.before.before.before.before.bits3.ensures in
-    let second = run.before.before.before.byte2.ensures.0 in
-    let len = run.before.before.length-of.ensures in
-    let there = whole_there inv.0 some pre.0 turn.before.byte.ensures.0 tag high second len pre.5 in
-    let few = run.before.least2.ensures in
+    let inv = c.loop-done.invariant in
+    let pre = c.requires in
+    let some = c.loop-done-test.true in
+    let tag = c.bits-tag.ensures in
+    let high = c.bits-else-again.ensures in
+    let second = c.byte.ensures.0 in
+    let len = c.length_of.ensures in
+    let there = whole_there inv.0 some pre.0 c.byte-b.ensures.0 tag high second len pre.5 in
+    let few = c.least-n-else-again.ensures in
     let room = whole_room inv.0 some pre.0 there _ few pre.5 in
     let within = turn_within inv.0 some pre.0 there _ few in
     let on = turn_on inv.0 some pre.0 there _ few in
-    rw (run.width_of.ensures ∙ ap width_of (sym tag)) (omega (arith, room, pre.0, within, on))
+    rw (c.width_of-w.ensures ∙ ap width_of (sym tag)) (omega (arith, room, pre.0, within, on))
 
 pub loop-done-preserved : goal.loop-done-preserved
 loop-done-preserved c =
-    let run = made_out c in
-    let turn = run_turn run in
-    let inv = (head turn).loop.inv in
-    let pre = (start turn).pre in
-    let some = (entered turn).loop-test.taken in
-    let tag = turn.bits.ensures in
-    let high = run.before.before.before.before.bits3.ensures in
-    let second = run.before.before.before.byte2.ensures.0 in
-    let len = run.before.before.length-of.ensures in
-    let there = whole_there inv.0 some pre.0 turn.before.byte.ensures.0 tag high second len pre.5 in
-    let few = run.before.least2.ensures in
+    let inv = c.loop-done.invariant in
+    let pre = c.requires in
+    let some = c.loop-done-test.true in
+    let tag = c.bits-tag.ensures in
+    let high = c.bits-else-again.ensures in
+    let second = c.byte.ensures.0 in
+    let len = c.length_of.ensures in
+    let there = whole_there inv.0 some pre.0 c.byte-b.ensures.0 tag high second len pre.5 in
+    let few = c.least-n-else-again.ensures in
     let room = whole_room inv.0 some pre.0 there _ few pre.5 in
     let filled = c.fill.ensures in (
-      rw (run.width_of.ensures ∙ ap width_of (sym tag)) (passed_more inv.0 some pre.0 there _ few room),
-      known_next _ _ some pre.2 len few run.width_of.ensures,
-      filled.0 ∙ kinds_more inv.0 some pre.0 there _ few _ room refl inv.2,
-      filled.1 ∙ payloads_more inv.0 some pre.0 there _ few _ room inv.3,
+      rw (c.width_of-w.ensures ∙ ap width_of (sym tag)) (passed_more inv.0 some pre.0 there _ few room),
+      known_next _ _ some pre.2 len few c.width_of-w.ensures,
+      filled.kinds_after ∙ kinds_more inv.0 some pre.0 there _ few _ room refl inv.2,
+      filled.payloads_after ∙ payloads_more inv.0 some pre.0 there _ few _ room inv.3,
     )
 
 pub shape_of-kinds : goal.shape_of-kinds
@@ -261,4 +216,4 @@ shape_of-payloads c = ap length c.loop-done.invariant.3 ∙ filled_length _ _ _
 pub returns : goal.returns
 returns c =
     let e : c.loop-done.done ≡ c.args.count = omega (arith, c.loop-done.invariant.0.below, c.loop-done-test.false) in
-    (rw e at c.loop-done.invariant.2, rw e at c.loop-done.invariant.3)
+    record { kinds_after = rw e at c.loop-done.invariant.2; payloads_after = rw e at c.loop-done.invariant.3 }

@@ -62,10 +62,10 @@ loop-done-preserved c =
       goes_again inv.0 some c.requires.0 inv.1 byte 8 held,
       known_on _ inv.1 some,
       omega (arith, held.2, some),
-      kinds_again inv.0 some c.requires.0 inv.1 byte 8 held c.requires.5 filled.0 inv.3,
-      payloads_again inv.0 some c.requires.0 inv.1 byte 8 held filled.1 inv.4,
-      ap length filled.0 ∙ from_length _ _ _ _ ∙ inv.5,
-      ap length filled.1 ∙ from_length _ _ _ _ ∙ inv.6,
+      kinds_again inv.0 some c.requires.0 inv.1 byte 8 held c.requires.5 filled.kinds_after inv.3,
+      payloads_again inv.0 some c.requires.0 inv.1 byte 8 held filled.payloads_after inv.4,
+      ap length filled.kinds_after ∙ from_length _ _ _ _ ∙ inv.5,
+      ap length filled.payloads_after ∙ from_length _ _ _ _ ∙ inv.6,
     )
 
 pub shape_of-kinds-else-again : goal.shape_of-kinds-else-again

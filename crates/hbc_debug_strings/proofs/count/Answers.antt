@@ -15,7 +15,7 @@ loop-left-init c = (counted_first _ _, marked_first _ _)
 pub returns-in-Refused : goal.returns-in-Refused
 returns-in-Refused c =
     let e = span_refused _ _ (found says_prefixed c.read_length_prefixed_string.ensures c.in-Refused.is) in
-    (counted_stop e c.loop-left.invariant.0, marked_stop c.loop-left-test.true e c.length_exact.ensures c.loop-left.invariant.1)
+    record { strings_value = counted_stop e c.loop-left.invariant.0; exact_value = marked_stop c.loop-left-test.true e c.length_exact.ensures c.loop-left.invariant.1 }
 
 pub overflow_add-n : goal.overflow_add-n
 overflow_add-n c = omega (arith, c.loop-left.invariant.0.most)
@@ -27,4 +27,4 @@ loop-left-preserved c =
     (counted_on c.loop-left-test.true e c.loop-left.invariant.0, marked_on c.loop-left-test.true e (string_mark _ _ m) c.loop-left.invariant.1)
 
 pub returns : goal.returns
-returns c = (counted_done c.loop-left-test.false c.loop-left.invariant.0, marked_done c.loop-left-test.false c.loop-left.invariant.1)
+returns c = record { strings_value = counted_done c.loop-left-test.false c.loop-left.invariant.0; exact_value = marked_done c.loop-left-test.false c.loop-left.invariant.1 }

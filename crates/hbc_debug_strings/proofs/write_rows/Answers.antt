@@ -33,11 +33,10 @@ overflow_cast-row-in-Got c = omega (arith, inside _ _ _ _ (span_got _ _ (found s
 pub loop-left-preserved : goal.loop-left-preserved
 loop-left-preserved c =
     let l = c.loop-left in
-    let p = c.p-1 in
     let f = c.part_to_file-start.ensures in
     let start = ap (λ (x : InFile). x.0) f in
-    let put = c.put_words.ensures ∙ ap (λ (x : InFile). sets l.rows l.at (x.0 ∷ p.given.0.0.span.len ∷ [])) f in
-    let read = span_got _ _ (found says_prefixed c.read_length_prefixed_string.ensures p.given.1) in
+    let put = c.put_words.ensures ∙ ap (λ (x : InFile). sets l.rows l.at (x.0 ∷ c.in-Got.p.span.len ∷ [])) f in
+    let read = span_got _ _ (found says_prefixed c.read_length_prefixed_string.ensures c.in-Got.is) in
     (written_on string_width c.loop-left-test.true read refl put l.invariant.0, omega arith)
 
 pub shape_of-rows : goal.shape_of-rows

@@ -9,7 +9,7 @@ pub returns-then-s-ne0 : goal.returns-then-s-ne0
 returns-then-s-ne0 c = length_odd _ _ c.if-s-gt-LIMIT.false c.if-s-ne0.true
 
 pub returns-then-room-n : goal.returns-then-room-n
-returns-then-room-n c = length_small _ _ c.if-s-gt-LIMIT.false c.if-s-ne0.false _ c.measure-n.ensures c.if-room-n.true c.refuse-then-room-n.ensures
+returns-then-room-n c = length_small _ _ c.if-s-gt-LIMIT.false c.if-s-ne0.false _ c.counted-n.ensures c.if-room-n.true c.refuse-then-room-n.ensures
 
 pub returns : goal.returns
-returns c = length_is _ _ c.if-s-gt-LIMIT.false c.if-s-ne0.false _ c.measure-n.ensures c.if-room-n.false
+returns c = length_is _ _ c.if-s-gt-LIMIT.false c.if-s-ne0.false _ c.counted-n.ensures c.if-room-n.false
