@@ -1,4 +1,4 @@
-"""What tools/house and tools/moved read: the tree, crates.txt, the declarations of .antt files, the functions of .rt files."""
+"""What the tools share: the tree, crates.txt, the declarations of .antt files, the functions of .rt files, how many checks the machine can do."""
 import io, os, pathlib, re, subprocess, tarfile
 from collections import namedtuple
 
@@ -9,7 +9,7 @@ def walk(root):
     """the files as they are now"""
     out = {}
     for folder, below, names in os.walk(root):
-        below[:] = sorted(n for n in below if n not in ('.git', 'target'))
+        below[:] = sorted(n for n in below if n not in ('.git', 'target', 'out'))
         for n in sorted(names):
             p = pathlib.Path(folder, n)
             out[str(p.relative_to(root))] = p.read_bytes().decode(errors='replace')
@@ -23,10 +23,15 @@ def at_commit(root, commit):
         return {m.name: t.extractfile(m).read().decode(errors='replace') for m in t if m.isfile()}
 
 
+def lines_of(tree):
+    """crate -> what follows its name before the colon, as `staticlib`, and the crates that it names"""
+    lines = re.sub(r'#.*', '', tree.get('crates.txt', '')).split('\n')
+    return {(head := l.split(':')[0].split())[0]: (head[1:], l.split(':')[1].split()) for l in lines if ':' in l}
+
+
 def crates_of(tree):
     """crate -> the crates that it names"""
-    lines = re.sub(r'#.*', '', tree.get('crates.txt', '')).split('\n')
-    return {l.split(':')[0].strip(): l.split(':')[1].split() for l in lines if ':' in l}
+    return {crate: below for crate, (_, below) in lines_of(tree).items()}
 
 
 def part(tree, crate, folder):
@@ -43,9 +48,14 @@ def is_claims(crate):
     return crate == 'hbc_claims' or crate.startswith('hbc_claims_')
 
 
+def is_archive(tree, crate):
+    """a static library: exports alone, over a library's calls, and no crate can name it"""
+    return 'staticlib' in lines_of(tree)[crate][0]
+
+
 def is_layer(tree, crate):
-    """a library that is called, not one of theorems"""
-    return not is_program(tree, crate) and not is_claims(crate)
+    """a library that is called, not one of theorems and not an archive"""
+    return not (is_program(tree, crate) or is_claims(crate) or is_archive(tree, crate))
 
 
 # ---- .antt
@@ -140,7 +150,7 @@ def declared(text):
 
 # ---- .rt
 
-# path: its module and type, as in a module of proofs (io, ByteReader); pub: '', 'pub', 'pub(crate)'; clauses: (kind, line, text)
+# path: its module and type, as in a module of proofs (io, ByteReader); pub: '', 'pub', 'pub(crate)'; clauses: (kind, line, text), a name left out
 Function = namedtuple('Function', 'crate path name pub extern line head clauses')
 
 
@@ -168,7 +178,7 @@ def functions(crate, path, text):
         at = closed(text, text.index('(', m.end()))
         head, clauses = text[m.start():at], []
         while at < len(text) and text[at] not in '{;':
-            k = re.compile(r'(ghost|requires|ensures)\s*\{').match(text, at)
+            k = re.compile(r'(ghost|requires|ensures)\*?(?:\s+\w+)?\s*\{').match(text, at)
             if k and text[at - 1].isspace():
                 end = closed(text, k.end() - 1)
                 clauses.append((k.group(1), text.count('\n', 0, at) + 1, spaced(text[k.end():end - 1])))
@@ -185,3 +195,12 @@ def functions(crate, path, text):
 
 def functions_of(tree, crate):
     return [f for p, t in part(tree, crate, 'src').items() if p.endswith('.rt') for f in functions(crate, p, t)]
+
+
+# ---- the machine
+
+
+def lanes():
+    """how many `rt` side by side: each takes two processors and some gigabytes"""
+    free = re.search(r'MemAvailable:\s+(\d+)', pathlib.Path('/proc/meminfo').read_text())
+    return max(1, min(len(os.sched_getaffinity(0)) // 2, int(free.group(1)) // 5_000_000))

@@ -33,19 +33,20 @@ fn archive() -> Result<PathBuf, String> {
         return named_archive(PathBuf::from(named));
     }
     let of = |part: &str| env::var(format!("CARGO_CFG_TARGET_{part}")).unwrap_or_default();
-    let name = match (of("ARCH").as_str(), of("OS").as_str()) {
-        ("x86_64", "linux") => "libhbc_c.a".to_string(),
-        (machine, "linux") => format!("libhbc_c-{machine}.a"),
-        (_, system) => return Err(format!("the archive is for Linux, not for {system}")),
-    };
+    let (machine, system) = (of("ARCH"), of("OS"));
+    if (machine.as_str(), system.as_str()) != ("x86_64", "linux") {
+        return Err(format!(
+            "rust/archive makes an archive for x86-64 Linux, not for {machine} {system}. HBC_C_ARCHIVE can name one for it."
+        ));
+    }
     let package = PathBuf::from(env::var_os("CARGO_MANIFEST_DIR").unwrap());
     let repository = package.ancestors().nth(2).unwrap();
-    let archive = repository.join("target/staticlib").join(name);
+    let archive = repository.join("target/staticlib/libhbc_c.a");
     if !archive.is_file() {
         let said = made(&repository.join("rust/archive"));
         if !archive.is_file() {
             return Err(format!(
-                "there is no {}, and rust/archive did not make it: it needs the command 'rt', and makes the archive of its own machine. HBC_C_ARCHIVE can name one that is there.\n{said}",
+                "there is no {}, and rust/archive did not make it: it needs the command 'rt'. HBC_C_ARCHIVE can name one that is there.\n{said}",
                 archive.display()
             ));
         }
@@ -76,7 +77,7 @@ fn made(script: &Path) -> String {
             let _ = writeln!(terminal, "bisquepond: {line}");
         }
     };
-    tell("there is no archive yet: it is proved and made now, which takes some ten minutes");
+    tell("there is no archive yet: it is proved and made now, which takes some minutes");
     let run = Command::new(script)
         .stdin(Stdio::null())
         .stdout(Stdio::null())

@@ -1,8 +1,7 @@
 // The calls on literals.
 ghost use Rattle.hbc_c_buffer.specs.Buffer.{ToldLiteral, ToldSeries, ToldObject};
 
-#[unsafe(no_mangle)]
-pub extern "C" fn hbc_read_literal(
+pub fn hbc_read_literal(
     s: &[u8],
     at: &mut usize,
     tag: u8,
@@ -16,8 +15,7 @@ pub extern "C" fn hbc_read_literal(
     hbc_c_buffer::read_literal(s, at, tag, kind, number, word)
 }
 
-#[unsafe(no_mangle)]
-pub extern "C" fn hbc_read_series(
+pub fn hbc_read_series(
     s: &[u8],
     offset: u32,
     count: u32,
@@ -30,8 +28,7 @@ pub extern "C" fn hbc_read_series(
 }
 
 // `yes` other than 0 names the keys. The bytes used stand at `offset` of the named buffer.
-#[unsafe(no_mangle)]
-pub extern "C" fn hbc_read_object(
+pub fn hbc_read_object(
     keys: &[u8],
     values: &[u8],
     yes: u32,

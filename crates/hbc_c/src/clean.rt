@@ -2,8 +2,7 @@
 ghost use Rattle.hbc_c_clean.specs.Clean.{ToldBundle};
 
 // A series' row: which buffer, 0 the values and any other number the keys, its offset there, its count of values.
-#[unsafe(no_mangle)]
-pub extern "C" fn hbc_check_bundle(
+pub fn hbc_check_bundle(
     file: &[u8],
     layout: u32,
     start: usize,

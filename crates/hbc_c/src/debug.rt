@@ -2,8 +2,7 @@
 ghost use Rattle.hbc_debug.specs.Debug.{tables};
 ghost use Rattle.hbc_c_debug.specs.Debug.{counts, lent, ToldDebug};
 
-#[unsafe(no_mangle)]
-pub extern "C" fn hbc_read_debug(
+pub fn hbc_read_debug(
     file: &[u8],
     offset: u32,
     strings: &mut [u32],

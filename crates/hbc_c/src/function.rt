@@ -2,8 +2,7 @@
 ghost use Rattle.hbc_function.specs.Table.{lent};
 ghost use Rattle.hbc_c_function.specs.Function.{ToldFunctions, ToldRefresh, ToldWrite, ToldFunction, ToldGround, ToldMeets, places};
 
-#[unsafe(no_mangle)]
-pub extern "C" fn hbc_read_functions(
+pub fn hbc_read_functions(
     file: &[u8],
     layout: u32,
     start: usize,
@@ -18,8 +17,7 @@ pub extern "C" fn hbc_read_functions(
     hbc_c_function::read_functions(file, layout, start, count, table, large, sizes)
 }
 
-#[unsafe(no_mangle)]
-pub extern "C" fn hbc_refresh_functions(
+pub fn hbc_refresh_functions(
     file: &[u8],
     layout: u32,
     start: usize,
@@ -37,8 +35,7 @@ pub extern "C" fn hbc_refresh_functions(
 }
 
 // The headers of lent rows into a lent buffer.
-#[unsafe(no_mangle)]
-pub extern "C" fn hbc_write_functions(
+pub fn hbc_write_functions(
     rows: &[u32],
     layout: u32,
     start: usize,
@@ -52,22 +49,14 @@ pub extern "C" fn hbc_write_functions(
 }
 
 // One function, into the first row of the table.
-#[unsafe(no_mangle)]
-pub extern "C" fn hbc_read_function(
-    file: &[u8],
-    layout: u32,
-    start: usize,
-    id: u32,
-    table: &mut [u32],
-) -> u64
+pub fn hbc_read_function(file: &[u8], layout: u32, start: usize, id: u32, table: &mut [u32]) -> u64
     ensures { ToldFunction file.now layout start id table.old result table.new }
 {
     hbc_c_function::read_function(file, layout, start, id, table)
 }
 
 // Where function `id` is read from: the place of its header, and that of its large one or 2^64 - 1.
-#[unsafe(no_mangle)]
-pub extern "C" fn hbc_function_ground(
+pub fn hbc_function_ground(
     file: &[u8],
     layout: u32,
     start: usize,
@@ -82,8 +71,7 @@ pub extern "C" fn hbc_function_ground(
 }
 
 // 1 if function `id` meets the bytes from low up to high, 0 if not.
-#[unsafe(no_mangle)]
-pub extern "C" fn hbc_function_meets(
+pub fn hbc_function_meets(
     file: &[u8],
     layout: u32,
     start: usize,

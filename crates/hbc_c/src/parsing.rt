@@ -2,8 +2,7 @@
 ghost use Rattle.hbc_c_parsing.specs.Parsing.{ToldHandlers, ToldWhy, ToldSections};
 
 // Accepted, the answer is 0 and the number of rows is in `total`: functions may share handlers, so that it can be above 2^32 - 1.
-#[unsafe(no_mangle)]
-pub extern "C" fn hbc_read_handlers(
+pub fn hbc_read_handlers(
     file: &[u8],
     functions: &[u32],
     count: u32,
@@ -17,21 +16,14 @@ pub extern "C" fn hbc_read_handlers(
 }
 
 // Shown, the answer is 0 and `handlers` is how many; else it is the reason's number or the refusal, and `handlers` stays.
-#[unsafe(no_mangle)]
-pub extern "C" fn hbc_why_no_handlers(
-    file: &[u8],
-    functions: &[u32],
-    id: u32,
-    handlers: &mut u32,
-) -> u64
+pub fn hbc_why_no_handlers(file: &[u8], functions: &[u32], id: u32, handlers: &mut u32) -> u64
     ensures { ToldWhy file.now functions.now id handlers.old result handlers.new }
 {
     hbc_c_parsing::why_no_handlers(file, functions, id, handlers)
 }
 
 // Five rows of four words: start, size with padding, entries, and 1 for sources that are absent. Accepted, the answer is 5.
-#[unsafe(no_mangle)]
-pub extern "C" fn hbc_trailing_sections(
+pub fn hbc_trailing_sections(
     file: &[u8],
     start: usize,
     regexps: u32,

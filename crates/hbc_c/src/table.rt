@@ -4,28 +4,20 @@ ghost use Rattle.hbc_c_table.specs.Table.{ToldTable, ToldStrings, ToldPart};
 
 use hbc_table_strings::Mode;
 
-#[unsafe(no_mangle)]
-pub extern "C" fn hbc_read_u32_table(s: &[u8], at: &mut usize, count: u32, table: &mut [u32]) -> u64
+pub fn hbc_read_u32_table(s: &[u8], at: &mut usize, count: u32, table: &mut [u32]) -> u64
     ensures { ToldTable 1 s.now at.old count table.old result at.new table.new }
 {
     hbc_c_table::read_u32_table(s, at, count, table)
 }
 
-#[unsafe(no_mangle)]
-pub extern "C" fn hbc_read_pair_table(
-    s: &[u8],
-    at: &mut usize,
-    count: u32,
-    table: &mut [u32],
-) -> u64
+pub fn hbc_read_pair_table(s: &[u8], at: &mut usize, count: u32, table: &mut [u32]) -> u64
     ensures { ToldTable 2 s.now at.old count table.old result at.new table.new }
 {
     hbc_c_table::read_pair_table(s, at, count, table)
 }
 
 // Accepted, the answer is the number of rows written.
-#[unsafe(no_mangle)]
-pub extern "C" fn hbc_decode_strings(
+pub fn hbc_decode_strings(
     count: u32,
     kinds: &[u32],
     small: &[u32],
@@ -40,8 +32,7 @@ pub extern "C" fn hbc_decode_strings(
 }
 
 // The same with pairs and runs as Hermes chooses them.
-#[unsafe(no_mangle)]
-pub extern "C" fn hbc_decode_strings_hermes(
+pub fn hbc_decode_strings_hermes(
     count: u32,
     kinds: &[u32],
     small: &[u32],
@@ -56,8 +47,7 @@ pub extern "C" fn hbc_decode_strings_hermes(
 }
 
 // A part does not cross the boundary: the caller takes it out of the storage by its start and length.
-#[unsafe(no_mangle)]
-pub extern "C" fn hbc_string_bytes(
+pub fn hbc_string_bytes(
     storage: &[u8],
     rows: &[u32],
     index: usize,

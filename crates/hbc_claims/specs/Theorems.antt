@@ -10,7 +10,7 @@ use prog.Routine.{Routine}
 use types.Logic.{Logic}
 use contract.Lifetimes.{Lfts}
 use contract.Monad.{Fun, fact}
-use Rattle.std.specs.Borrow.{Bor}
+use Rattle.std.specs.Borrow.{Bor, MutBor}
 use denote.Triple.Both.{Both}
 use Rattle.hbc_bits.specs.Bits.{le_at}
 use Rattle.hbc_io.specs.Outcome.{got, refused, valued, cursor_at, limit}
@@ -115,7 +115,7 @@ use Rattle.hbc_claims_law.specs.Terms.{Same, Shared, RowWord, flagged, packed_at
 use Rattle.hbc_claims_io.specs.Unique as u_io
 use Rattle.hbc_claims_io.specs.Reader as u_reader
 use Rattle.hbc_claims_io.specs.Leb128.{MarkTells}
-use Rattle.hbc_claims_io.specs.Reader.{Lent, New, Position, Remaining, Seek, U32, Uleb128, Bytes, Part}
+use Rattle.hbc_claims_io.specs.Reader.{Lent, LentMut, New, Position, Remaining, Seek, U32, Uleb128, Bytes, Part}
 use Rattle.hbc_claims_function.specs.Packed as packed
 use Rattle.hbc_claims_function.specs.BitLayout.{Covers, Named}
 use Rattle.hbc_claims_function.specs.Unique as u_function
@@ -185,13 +185,13 @@ pub record Reader {M : Type 1} {𝓤 : Ura M} (𝓛 : Logic 𝓤) (mem : Memory 
       → of_new.ensures-1 𝓛 κs mem run a b r ≡ fact 𝓤 (New b.entry r)
   pub position : (κs : Lfts 2) (a : Bor ByteReader) (b : Lent) (r : ℕ) → of_position.ensures-1 𝓛 κs mem run a b r ≡ fact 𝓤 (Position b.entry.now r)
   pub remaining : (κs : Lfts 2) (a : Bor ByteReader) (b : Lent) (r : ℕ) → of_remaining.ensures-1 𝓛 κs mem run a b r ≡ fact 𝓤 (Remaining b.entry.now r)
-  pub seek : (κs : Lfts 2) (a : Bor ByteReader) (to : ℕ) (b : Lent) (t : Both ℕ ℕ) (r : Moved)
+  pub seek : (κs : Lfts 2) (a : MutBor ByteReader) (to : ℕ) (b : LentMut) (t : Both ℕ ℕ) (r : Moved)
       → of_seek.ensures-1 𝓛 κs mem run a to b t r ≡ fact 𝓤 (Seek to b.entry.now r b.exit.now)
-  pub read_u32 : (κs : Lfts 2) (a : Bor ByteReader) (b : Lent) (r : ReadU32)
+  pub read_u32 : (κs : Lfts 2) (a : MutBor ByteReader) (b : LentMut) (r : ReadU32)
       → of_read_u32.ensures-1 𝓛 κs mem run a b r ≡ fact 𝓤 (U32 b.entry.now r b.exit.now)
-  pub read_uleb128 : (κs : Lfts 2) (a : Bor ByteReader) (b : Lent) (r : ReadUleb)
+  pub read_uleb128 : (κs : Lfts 2) (a : MutBor ByteReader) (b : LentMut) (r : ReadUleb)
       → of_read_uleb128.ensures-1 𝓛 κs mem run a b r ≡ fact 𝓤 (Uleb128 b.entry.now r b.exit.now)
-  pub read_bytes : (κs : Lfts 2) (a : Bor ByteReader) (n : ℕ) (b : Lent) (t : Both ℕ ℕ) (r : ReadSpan)
+  pub read_bytes : (κs : Lfts 2) (a : MutBor ByteReader) (n : ℕ) (b : LentMut) (t : Both ℕ ℕ) (r : ReadSpan)
       → of_read_bytes.ensures-1 𝓛 κs mem run a n b t r ≡ fact 𝓤 (Bytes n b.entry.now r b.exit.now)
   pub part : (κs : Lfts 2) (a : Bor ByteReader) (p : Span) (b : Lent) (t : Both Span Span) (r : Bor (List ℕ))
       → of_part.ensures-1 𝓛 κs mem run a p b t r ≡ fact 𝓤 (Part p b.entry.now r)

@@ -114,10 +114,10 @@ fn rattle_parameter(text: &str) -> String {
     }
 }
 
-/// The exports of crates/hbc_c.
+/// The exports of crates/hbc_c_c.
 fn exported() -> Calls {
     let mut calls = Calls::new();
-    for file in fs::read_dir(repository().join("crates/hbc_c/src")).unwrap() {
+    for file in fs::read_dir(repository().join("crates/hbc_c_c/src")).unwrap() {
         let text = fs::read_to_string(file.unwrap().path()).unwrap();
         for found in text.split("pub extern \"C\" fn ").skip(1) {
             let (name, rest) = found.split_once('(').unwrap();

@@ -118,7 +118,7 @@ fn of_code(line: &str) -> Option<Field> {
     Field::of(name, first, width)
 }
 
-/// `«param_count» = at 25 7;` of a record in the definition, where a name with an underscore stands in quotes.
+/// `param_count = at 25 7;` of a record in the definition, where a word of antt stands in quotes.
 fn of_specs(line: &str) -> Option<Field> {
     let (name, pair) = line.split_once(" = at ")?;
     let (first, width) = pair.strip_suffix(';')?.split_once(' ')?;
@@ -150,8 +150,8 @@ fn code_lines(code: &str, layout: Layout) -> Vec<&str> {
 
 fn specs_lines(specs: &str, layout: Layout) -> Vec<&str> {
     let begins = match layout {
-        Layout::Legacy16 => "legacyBits =",
-        Layout::Modern12 => "modernBits =",
+        Layout::Legacy16 => "legacy_bits =",
+        Layout::Modern12 => "modern_bits =",
     };
     braced(specs, begins, "--")
 }
