@@ -34,6 +34,7 @@ named_now a k f p n = rw (n.known, eq-eqb p.address a n.address, n.name)
 
 last_is : (a k : ℕ) (f : Found) (ps : List Pair) → Last a k ps → last_name a f ps ≡ name k
 unfolding last_name
+last_is a k f [] h = elim h [ ]
 last_is a k f (p ∷ ps) (left h) = ap (λ (x : Found). last_name a x ps) (named_now a k f p h.0) ∙ silent_keeps a (name k) ps h.1
 last_is a k f (p ∷ ps) (right l) = last_is a k (after1 a f p) ps l
 
@@ -60,6 +61,7 @@ snoc_between lo a (name k) [] h = (h, omega arith)
 snoc_between lo a f (x ∷ xs) h = (h.0, snoc_between (suc x.address) a f xs h.1)
 
 row_left : (x : Callee) (xs ys : List Callee) → Row x xs → Row x (xs ++ ys)
+row_left x [] ys r = elim r [ ]
 row_left x (y ∷ xs) ys (left e) = left e
 row_left x (y ∷ xs) ys (right r) = right (row_left x xs ys r)
 
@@ -83,6 +85,8 @@ module _ (g : ℕ → Found) where
   below_between (suc a) = snoc_between 0 a (g a) (rising_below g a) (below_between a)
 
   one_row : (x : Callee) (a : ℕ) (f : Found) → f ≡ g a → Row x (callee_if a f) → g x.address ≡ name x.name
+  one_row x a none e r = elim r [ ]
+  one_row x a (name k) e (right q) = elim q [ ]
   one_row x a (name k) e (left u) =
       let v : x.address ≡ a = ap (λ (y : Callee). y.address) u in
       let w : x.name ≡ k = ap (λ (y : Callee). y.name) u in
@@ -90,6 +94,7 @@ module _ (g : ℕ → Found) where
 
   row_named : (hi : ℕ) (x : Callee) → Row x (rising_below g hi) → g x.address ≡ name x.name
   unfolding rising_below
+  row_named zero x r = elim r [ ]
   row_named (suc a) x r = go (row_either x (rising_below g a) (callee_if a (g a)) r) (λ l. row_named a x l)
     where
       go : Either (Row x (rising_below g a)) (Row x (callee_if a (g a))) → (Row x (rising_below g a) → g x.address ≡ name x.name) → g x.address ≡ name x.name
@@ -133,6 +138,7 @@ between_le lo hi [] h = h
 between_le lo hi (x ∷ xs) h = let t = between_le (suc x.address) hi xs h.1 in omega (arith, h.0)
 
 row_from : (lo hi : ℕ) (x : Callee) (xs : List Callee) → Between lo hi xs → Row x xs → (lo ≤ x.address) × (x.address < hi)
+row_from lo hi x [] b r = elim r [ ]
 row_from lo hi x (y ∷ ys) b (left e) =
     let v : x.address ≡ y.address = ap (λ (z : Callee). z.address) e in
     let t = between_le (suc y.address) hi ys b.1 in

@@ -9,58 +9,59 @@ use hbc_function_record::{
 };
 use hbc_io::Refusal;
 use hbc_rows::word_of;
-use libc::STDOUT_FILENO;
+use hbc_stdio::Out;
 
-fn refused(r: Refusal) {
-    io::write_all(STDOUT_FILENO, b"refused ");
-    io::print_decimal(STDOUT_FILENO, r.number as u64);
-    io::write_all(STDOUT_FILENO, b" at ");
-    io::print_decimal(STDOUT_FILENO, r.place as u64);
-    io::write_all(STDOUT_FILENO, b"\n");
+fn refused(out: &mut Out, r: Refusal) {
+    out.write_all(b"refused ");
+    out.print_decimal(r.number as u64);
+    out.write_all(b" at ");
+    out.print_decimal(r.place as u64);
+    out.write_all(b"\n");
 }
 
-fn heading(layout: Layout, count: u32) {
+fn heading(out: &mut Out, layout: Layout, count: u32) {
     match layout {
         Layout::Legacy16 => {
-            io::write_all(STDOUT_FILENO, b"layout legacy16 functions ");
+            out.write_all(b"layout legacy16 functions ");
         }
         Layout::Modern12 => {
-            io::write_all(STDOUT_FILENO, b"layout modern12 functions ");
+            out.write_all(b"layout modern12 functions ");
         }
     }
-    io::print_decimal(STDOUT_FILENO, count as u64);
-    io::write_all(STDOUT_FILENO, b"\n");
+    out.print_decimal(count as u64);
+    out.write_all(b"\n");
 }
 
-fn field(name: &[u8], value: u32) {
-    io::write_all(STDOUT_FILENO, name);
-    io::print_decimal(STDOUT_FILENO, value as u64);
+fn field(out: &mut Out, name: &[u8], value: u32) {
+    out.write_all(name);
+    out.print_decimal(value as u64);
 }
 
 // Whether the line could be ended.
-fn row(rows: &[u32], id: u32) -> bool {
+fn row(out: &mut Out, rows: &[u32], id: u32) -> bool {
     let at = (id as usize) * WIDTH;
-    io::print_decimal(STDOUT_FILENO, id as u64);
-    field(b" offset ", word_of(rows, at + ROW_OFFSET));
-    field(b" size ", word_of(rows, at + ROW_SIZE));
-    field(b" name ", word_of(rows, at + ROW_NAME));
-    field(b" info ", word_of(rows, at + ROW_INFO_OFFSET));
-    field(b" frame ", word_of(rows, at + ROW_FRAME_SIZE));
-    field(b" flags ", word_of(rows, at + ROW_FLAGS));
-    io::write_all(STDOUT_FILENO, b"\n")
+    out.print_decimal(id as u64);
+    field(out, b" offset ", word_of(rows, at + ROW_OFFSET));
+    field(out, b" size ", word_of(rows, at + ROW_SIZE));
+    field(out, b" name ", word_of(rows, at + ROW_NAME));
+    field(out, b" info ", word_of(rows, at + ROW_INFO_OFFSET));
+    field(out, b" frame ", word_of(rows, at + ROW_FRAME_SIZE));
+    field(out, b" flags ", word_of(rows, at + ROW_FLAGS));
+    out.write_all(b"\n");
+    out.is_whole()
 }
 
-fn rows_of(rows: &[u32], count: u32) {
+fn rows_of(out: &mut Out, rows: &[u32], count: u32) {
     let mut id: u32 = 0;
     while id < count {
-        if !row(rows, id) {
+        if !row(out, rows, id) {
             return;
         }
         id += 1;
     }
 }
 
-fn list_file(file: &[u8], job: Parts) -> Job
+fn list_file(out: &mut Out, file: &[u8], job: Parts) -> Job
     ensures { says_job result ≡ listed_of file.now job }
 {
     let layout = job.layout;
@@ -79,25 +80,25 @@ fn list_file(file: &[u8], job: Parts) -> Job
         &mut sizes,
     ) {
         Reading::Read => {
-            heading(layout, count);
-            rows_of(&rows, count);
+            heading(out, layout, count);
+            rows_of(out, &rows, count);
             Job::Of(job)
         }
         Reading::Refused(r) => {
-            refused(r);
+            refused(out, r);
             Job::Refused(r)
         }
     }
 }
 
 // Lists a job's functions, at most LISTED of them, and answers the job, or the refusal that is shown.
-pub fn list(s: &[u8]) -> Job
+pub fn list(out: &mut Out, s: &[u8]) -> Job
     ensures { says_job result ≡ listing s.now }
 {
     match parse_job(s) {
-        Job::Of(p) => list_file(&s[FILE..], p),
+        Job::Of(p) => list_file(out, &s[FILE..], p),
         Job::Refused(r) => {
-            refused(r);
+            refused(out, r);
             Job::Refused(r)
         }
     }

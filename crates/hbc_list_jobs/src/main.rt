@@ -4,10 +4,11 @@
 ghost use Rattle.std.specs.Prelude.{◌<◌};
 
 use hbc_io::{u8_at, u32_at};
-use libc::STDOUT_FILENO;
+use hbc_stdio::{Out, read_full};
+use std::io;
 
 // Runs the case at a place; where it ends, or past everything where it is cut.
-fn run(s: &[u8], at: usize) -> usize
+fn run(out: &mut Out, s: &[u8], at: usize) -> usize
     requires { at < 1000000 }
     ensures { at < result }
 {
@@ -17,21 +18,23 @@ fn run(s: &[u8], at: usize) -> usize
     if s.len() < end {
         return 1000000;
     }
-    io::write_all(STDOUT_FILENO, b"-- ");
-    io::write_all(STDOUT_FILENO, &s[name..job]);
-    io::write_all(STDOUT_FILENO, b"\n");
-    hbc_job::show::list(&s[job..end]);
+    out.write_all(b"-- ");
+    out.write_all(&s[name..job]);
+    out.write_all(b"\n");
+    hbc_job::show::list(out, &s[job..end]);
     end
 }
 
-fn main() {
+fn main(rt: HostRuntime) -> io::Result<()> {
     let mut buf = [0u8; 120000];
-    let n = io::read_full(0, &mut buf);
+    let n = read_full(&mut rt.stdin(), &mut buf)?;
+    let mut out = Out::new(rt.stdout());
     let mut at: usize = 0;
     while at < n {
         if 1000000 <= at {
-            return;
+            break;
         }
-        at = run(&buf[..n], at);
+        at = run(&mut out, &buf[..n], at);
     }
+    out.end()
 }

@@ -1,5 +1,5 @@
 -- One law for each exit of a function, and for each loop a record with its laws: first, on, done.
-use Rattle.std.proofs.Common.{◌≡◌, ℕ, ◌+◌, ◌/◌, ◌%◌, ◌^◌, ◌≤◌, Bool, true, false, cond, not, ◌&&◌, eqb, List, length, get_or, take, set, sym, refl, ap, ◌∙◌, add-one, arith, length-set, take_all, Bor, eq-eqb, ne_eqb}
+use Rattle.std.proofs.Common.{◌≡◌, ℕ, ◌+◌, ◌/◌, ◌%◌, ◌^◌, ◌≤◌, Bool, true, false, cond, not, ◌&&◌, eqb, List, length, get_or, take, set, sym, refl, ap, ◌∙◌, add-one, arith, length-set, take_all, MutBor, eq-eqb, ne_eqb}
 use mathlib.Core.Bool.{or-true}
 use mir.Val.{bool_byte}
 use Rattle.hbc_rows.specs.Rows.{filled}
@@ -145,14 +145,14 @@ put_on h e = record { is = rw (add-one, e, h.is); size = simp length-set h.size 
 pub put_done : {w t₀ t : List ℕ} {i : ℕ} → i ≡ length t₀ → Put w t₀ i t → t ≡ filled (words_of w) (length t₀) t₀
 put_done d h = rw (← d) h.is
 
-pub front_all : (t : Bor (List ℕ)) (k : ℕ) → length t.now ≤ k → IsFront t k t
+pub front_all : (t : MutBor (List ℕ)) (k : ℕ) → length t.now ≤ k → IsFront t k t
 front_all t k l = record { words = sym (take_all k t.now l); place = refl }
 
 -- a part that starts at 0 stands where its table does
 pub from_first : (p : ℕ × ℕ) → (p.0, 0 + p.1) ≡ p
 from_first p = let e : 0 + p.1 ≡ p.1 = omega arith in ap (λ (n : ℕ). (p.0, n)) e
 
-pub given_is : {s w : List ℕ} {t u r : Bor (List ℕ)} → w ≡ s → u.now ≡ filled (words_of w) (length t.now) t.now → u.ref_ptr ≡ t.ref_ptr
+pub given_is : {s w : List ℕ} {t u r : MutBor (List ℕ)} → w ≡ s → u.now ≡ filled (words_of w) (length t.now) t.now → u.ref_ptr ≡ t.ref_ptr
     → IsFront u (length w / 4) r → IsGiven s t r
 given_is {w = w} e f p h = record { words = rw (← e) (h.words ∙ ap (take (length w / 4)) f); place = h.place ∙ p }
 

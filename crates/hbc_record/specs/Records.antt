@@ -2,7 +2,7 @@
 use Rattle.std.specs.Prelude.{◌≡◌, ℕ, zero, suc, ◌+◌, ◌*◌, ◌/◌, ◌%◌, ◌^◌, Bool, true, false, cond, not, ◌&&◌, ◌||◌, List, [], ◌∷◌, length, take, ◌==◌, from_bits, slice_index, Float}
 use Rattle.std.specs.Float.{binary64}
 use Rattle.std.specs.Float.Ieee.{div, eq, ne}
-use Rattle.std.specs.Borrow.{Bor}
+use Rattle.std.specs.Borrow.{MutBor}
 use Rattle.hbc_io.specs.Outcome.{Outcome, got, refused, valued, cursor_at}
 use Rattle.hbc_io.specs.Plain.{span_of, part_of, word_at}
 use Rattle.hbc_io.specs.declared.Span.{Span}
@@ -146,7 +146,7 @@ same_float v w = (eq v w && eq (div binary64 one v) (div binary64 one w)) || (ne
 -- ---- what a call is lent and given
 
 -- r is the first k words of a table, or all of them, where they stand
-pub record IsFront (t : Bor (List ℕ)) (k : ℕ) (r : Bor (List ℕ)) : Type 0 where
+pub record IsFront (t : MutBor (List ℕ)) (k : ℕ) (r : MutBor (List ℕ)) : Type 0 where
   pub words : r.now ≡ take k t.now
   pub place : r.ref_ptr ≡ t.ref_ptr
 
@@ -155,7 +155,7 @@ abbrev pub words_of : List ℕ → ℕ → ℕ
 words_of s i = word_at 4 s (4 * i)
 
 -- r is the words of a field, as many as a table has room for, where the table stands
-pub record IsGiven (s : List ℕ) (t : Bor (List ℕ)) (r : Bor (List ℕ)) : Type 0 where
+pub record IsGiven (s : List ℕ) (t : MutBor (List ℕ)) (r : MutBor (List ℕ)) : Type 0 where
   pub words : r.now ≡ take (length s / 4) (filled (words_of s) (length t.now) t.now)
   pub place : r.ref_ptr ≡ t.ref_ptr
 

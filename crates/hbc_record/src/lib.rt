@@ -12,7 +12,7 @@ ghost use Rattle.hbc_record.specs.Records.{same_float, IsFront, words_of, IsGive
 use hbc_io::{Cursor, Span};
 use hbc_io_leb::ReadUleb;
 use hbc_io_strings::ReadPrefixed;
-use libc::STDOUT_FILENO;
+use hbc_stdio::Out;
 
 // What a word of a lent table holds before a call.
 pub const FILL: u32 = 0xA5A5_A5A5;
@@ -337,14 +337,14 @@ pub fn counted(t: Tally, same: bool) -> Tally
 }
 
 // A group's line, and the count begins anew. What is written no contract can say.
-pub fn report(name: &[u8], t: Tally) -> Tally
+pub fn report(out: &mut Out, name: &[u8], t: Tally) -> Tally
     ensures { result ≡ tally 0 0 }
 {
-    io::write_all(STDOUT_FILENO, name);
-    io::write_all(STDOUT_FILENO, b": ");
-    io::print_decimal(STDOUT_FILENO, t.all);
-    io::write_all(STDOUT_FILENO, b" records, ");
-    io::print_decimal(STDOUT_FILENO, t.bad);
-    io::write_all(STDOUT_FILENO, b" differ\n");
+    out.write_all(name);
+    out.write_all(b": ");
+    out.print_decimal(t.all);
+    out.write_all(b" records, ");
+    out.print_decimal(t.bad);
+    out.write_all(b" differ\n");
     Tally { all: 0, bad: 0 }
 }

@@ -8,6 +8,9 @@ mod function;
 mod parsing;
 
 use hbc_record::{Asked, Tally, counted, field_at, field_of, head, past, report};
+use hbc_stdio::{Out, read_full};
+use std::io;
+use std::io::Stdin;
 
 // Whether a call does what is recorded. Its input is read here once, for all judges.
 fn judge(record: &[u8], n: Asked) -> bool {
@@ -28,36 +31,39 @@ fn judge(record: &[u8], n: Asked) -> bool {
     }
 }
 
-fn turn(record: &[u8], t: Tally) -> Tally {
+fn turn(out: &mut Out, record: &[u8], t: Tally) -> Tally {
     if record.len() == 0 {
         return t;
     }
     let n = head(record);
     if n.call == 0 {
-        return report(field_of(record, 1), t);
+        return report(out, field_of(record, 1), t);
     }
     counted(t, judge(record, n))
 }
 
 // As many turns as there are bytes: no fewer than there are records. Behind the last one a turn does nothing.
-fn replay(s: &[u8]) {
+fn replay(out: &mut Out, s: &[u8]) {
     let mut t = Tally { all: 0, bad: 0 };
     let mut at: usize = 0;
     let mut left = s.len();
     while 0 < left {
-        t = turn(field_at(s, at), t);
+        t = turn(out, field_at(s, at), t);
         at = past(s, at);
         left -= 1;
     }
 }
 
 // Apart from main, so that the buffer's length is no number that a proof goes by.
-fn run(buf: &mut [u8]) {
-    let n = io::read_full(0, buf);
-    replay(&buf[..n]);
+fn run(input: &mut Stdin, out: &mut Out, buf: &mut [u8]) -> io::Result<()> {
+    let n = read_full(input, buf)?;
+    replay(out, &buf[..n]);
+    Ok(())
 }
 
-fn main() {
+fn main(rt: HostRuntime) -> io::Result<()> {
     let mut buf = [0u8; 500000];
-    run(&mut buf);
+    let mut out = Out::new(rt.stdout());
+    run(&mut rt.stdin(), &mut out, &mut buf)?;
+    out.end()
 }

@@ -1,0 +1,71 @@
+// Standard input and output, as the programs use them. What is read or written no contract can say.
+#![tactic(auto)]
+
+ghost use Rattle.std.specs.Prelude.{◌≤◌, length, IfOk};
+
+use std::io;
+use std::io::{Read, Stdout, Write};
+
+// Reads until buf is full or the input ends; how many bytes it put at the start of buf.
+pub fn read_full<R: Read>(input: &mut R, buf: &mut [u8]) -> io::Result<usize>
+    ensures { IfOk result (λ n. n ≤ length buf.new) }
+{
+    let mut done: usize = 0;
+    while done < buf.len() {
+        let n = input.read(&mut buf[done..])?;
+        if n == 0 {
+            break;
+        }
+        done += n;
+    }
+    Ok(done)
+}
+
+// Standard output, and the first error of a write: behind it nothing is written.
+#[derive(Drop)]
+pub struct Out {
+    to: Stdout,
+    failed: Option<io::Error>,
+}
+
+impl Out {
+    pub fn new(to: Stdout) -> Out {
+        Out { to, failed: None }
+    }
+
+    // Whether all went well so far.
+    pub fn is_whole(&self) -> bool {
+        self.failed.is_none()
+    }
+
+    // Keeps the error of a write.
+    fn keep(&mut self, written: io::Result<()>) {
+        if let Err(e) = written {
+            self.failed = Some(e);
+        }
+    }
+
+    // Writes all of the bytes.
+    pub fn write_all(&mut self, bytes: &[u8]) {
+        if self.is_whole() {
+            let written = self.to.write_all(bytes);
+            self.keep(written);
+        }
+    }
+
+    // Writes the number in decimal digits.
+    pub fn print_decimal(&mut self, n: u64) {
+        if self.is_whole() {
+            let written = write!(self.to, "{n}");
+            self.keep(written);
+        }
+    }
+
+    // What became of the writes: the error of the one that failed.
+    pub fn end(self) -> io::Result<()> {
+        match self.failed {
+            Some(e) => Err(e),
+            None => Ok(()),
+        }
+    }
+}
