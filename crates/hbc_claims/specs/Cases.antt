@@ -48,7 +48,9 @@ modern_head s = 32 ∷ 0 ∷ 0 ∷ 69 ∷ 10 ∷ 64 ∷ 0 ∷ 41 ∷ 6 ∷ 7 ∷
 -- the packed place of a record (P3, P4); and the function with such a header is read from there, and found with that place, in every file that is long enough
 abbrev pub Placed : Layout → ℕ → (List ℕ → List ℕ) → ℕ → Type 0
 Placed layout packed head place =
-    (packed ≡ place) × ((s : List ℕ) → place + large_of layout ≤ length (head s) → function_at (head s) layout 0 0 ≡ gives (large_found (head s) layout place 0))
+    (packed ≡ place)
+    × ((s : List ℕ) → place + large_of layout ≤ length (head s)
+    → function_at (head s) layout 0 0 ≡ gives (large_found (head s) layout place 0))
 
 -- a flagged header at 0 that names the place behind it, and so many zeros there
 abbrev pub modern_file : ℕ → List ℕ
@@ -104,7 +106,8 @@ times (suc n) s = s ++ times n s
 -- the text of bytes of UTF-8 put over so many bytes of 9: the answer, and the bytes afterwards
 abbrev pub PutsIn : List ℕ → ℕ → Answer ℕ → List ℕ → Type 0
 PutsIn s bytes answer after =
-    (put_answer (utf8_text s) s bytes ≡ answer) × (written (put_answer (utf8_text s) s bytes) (over (utf8_text s) (replicate bytes 9)) (replicate bytes 9) ≡ after)
+    (put_answer (utf8_text s) s bytes ≡ answer)
+    × (written (put_answer (utf8_text s) s bytes) (over (utf8_text s) (replicate bytes 9)) (replicate bytes 9) ≡ after)
 
 -- a function with this info_offset and these flags, in a row whose other words are 9: why it has no handlers, or those that it has, and the export's number
 abbrev pub IsWhy : List ℕ → ℕ → ℕ → Why → ℕ → Type 0

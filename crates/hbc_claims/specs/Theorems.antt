@@ -2,7 +2,8 @@
 -- themselves, in one record, under the names in brackets; proofs/Proved proves them. The promises that they speak of (`ReadFunctions`, ..) are what the
 -- calls' contracts cite (docs/PROMISES.md), the terms are those of hbc_claims_law/specs/Terms. n is a cursor as a call leaves it, t' a table. A
 -- `Table` of functions has the words of its rows, and beside them two totals.
-use Rattle.std.specs.Prelude.{ℕ, suc, ◌+◌, ◌*◌, ◌%◌, ◌^◌, ◌≤◌, ◌<◌, min, max, ◌≡◌, List, [], ◌∷◌, ◌++◌, Bool, true, false, cond, length, get_or, take, drop, Float, eqb}
+use Rattle.std.specs.Prelude.{ℕ, suc, ◌+◌, ◌*◌, ◌%◌, ◌^◌, ◌≤◌, ◌<◌, min, max, ◌≡◌, List, [], ◌∷◌, ◌++◌}
+use Rattle.std.specs.Prelude.{Bool, true, false, cond, length, get_or, take, drop, Float, eqb}
 use seplogic.Ra.Ura.{Ura}
 use base.Logic.{SProp}
 use prog.Memory.{Memory}
@@ -312,7 +313,8 @@ pub record ExportedLeft (s : List ℕ) (at r at' : ℕ) : Type 1 where
   pub hbc_read_cstring : {start₀ len₀ start len : ℕ} → ReadsSpan (zero_ended s (cursor_at at)) start₀ len₀ r at' start len
       → (k : Refusal) × (r ≡ code_of k) × (at' ≡ (text_left s (cursor_at at) k).at) × (start ≡ start₀) × (len ≡ len₀)
   pub hbc_read_length_prefixed_string : {start₀ len₀ start len exact₀ exact : ℕ}
-      → Marked (ReadsSpan (prefixed s (cursor_at at)) start₀ len₀ r at' start len) (valued (λ (p : Prefixed). p.exact) (marked_at s (cursor_at at))) exact₀ exact
+      → Marked (ReadsSpan (prefixed s (cursor_at at)) start₀ len₀ r at' start len)
+      (valued (λ (p : Prefixed). p.exact) (marked_at s (cursor_at at))) exact₀ exact
       → (k : Refusal) × (r ≡ code_of k) × PrefixLeft s (cursor_at at) k (cursor_at at') × (start ≡ start₀) × (len ≡ len₀) × (exact ≡ exact₀)
   pub hbc_function_ground : (l start i : ℕ) (held : Places) {places : Places} → ToldGround s l start i held r places → places ≡ held
   -- hbc_read_u32_table (width 1), hbc_read_pair_table (width 2)

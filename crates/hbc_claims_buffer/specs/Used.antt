@@ -17,7 +17,8 @@ UsedSmall s offset count kinds payloads n = series_answer s offset count kinds p
 abbrev pub PartIs : List ℕ → List ℕ → Bool → ℕ → ℕ → List ℕ → List ℕ → Object → List ℕ → List ℕ → ℕ → Type 0
 PartIs keys values b offset count ks ps o ks' ps' n =
     ReadObject keys values b offset count ks ps o ks' ps' → (count ≡ 0 → ⊥)
-    → series_answer (named b keys values) offset count (length ks) (length ps) ≡ gives n → object_part keys values o ≡ take n (drop offset (named b keys values))
+    → series_answer (named b keys values) offset count (length ks) (length ps) ≡ gives n
+    → object_part keys values o ≡ take n (drop offset (named b keys values))
 
 -- for count 0 it is empty
 abbrev pub PartNone : List ℕ → List ℕ → Bool → ℕ → Type 0
