@@ -179,8 +179,8 @@ pub record Unique : Type 0 where
   pub records : u_records.Unique
   pub exported : u_c.Unique
 
--- a reader's calls are proved by hand, and the checker makes no plain reading of their contracts: each clause, as the checker has it, is the one fact of
--- its name in hbc_claims_io/specs/Reader, over the reader before, the answer, and the reader after (`reader`)
+-- of a reader's calls each clause, as the checker has it, is the one fact of its name in hbc_claims_io/specs/Reader, over the reader before, the answer,
+-- and the reader after (`reader`)
 pub record Reader {M : Type 1} {𝓤 : Ura M} (𝓛 : Logic 𝓤) (mem : Memory → SProp 𝓤) (run : Routine → Fun 𝓤) : Type 2 where
   pub new : (κs : Lfts 1) (a : Bor (List ℕ)) (b : Both (Bor (List ℕ)) (Bor (List ℕ))) (r : ByteReader)
       → of_new.ensures-1 𝓛 κs mem run a b r ≡ fact 𝓤 (New b.entry r)

@@ -1,6 +1,6 @@
 -- docs/FORMAT.md, section 2.6: of a reader's calls too, two outcomes that both meet a call's contract are one: the answer, and the reader as it is left.
--- A method over a reader is proved by hand, and the checker makes no plain reading of its contract: each contract is set out here as one fact,
--- and the page of hbc_claims says that the contract's clause is that fact and nothing else (`reader`).
+-- Each contract of a method over a reader is set out here as one fact, and the page of hbc_claims says that the contract's clause is that fact and
+-- nothing else (`reader`).
 use Rattle.std.specs.Prelude.{◌≡◌, List, ℕ}
 use Rattle.std.specs.Borrow.{Bor, MutBor}
 use denote.Triple.Both.{Both}

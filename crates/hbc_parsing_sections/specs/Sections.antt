@@ -44,7 +44,7 @@ unfoldable pub sections_at : ℕ → ℕ → ℕ → ℕ → Bool → ℕ → Li
 sections_at start regexps storage cjs given sources s =
     and_then (seek_to s (cursor_at 0) start) (λ _ c. sections_from regexps storage cjs given sources s c)
 
--- what each case of the answer says; what is due is sectionsAt without its cursor
+-- what each case of the answer says; what is due is sections_at without its cursor
 abbrev pub says_sections : ReadSections → Answer Sections
 says_sections (all.Got s) = gives s
 says_sections (all.Refused r) = refuses r

@@ -25,10 +25,10 @@ fn is_wide(rows: &[u32], index: usize) -> bool
 pub fn is_marked(rows: &[u32], index: usize) -> bool
     ensures { result ≡ is_wide rows.now index }
 {
-    if rows.len() / STRING_WIDTH <= index {
-        return false;
+    if index < rows.len() / STRING_WIDTH {
+        return is_wide(rows, index);
     }
-    is_wide(rows, index)
+    false
 }
 
 // The text in front of what is lent, whole or not at all.
