@@ -1,7 +1,8 @@
 // Standard input and output, as the programs use them. What is read or written no contract can say.
 #![tactic(auto)]
 
-ghost use Rattle.std.specs.Prelude.{◌≤◌, length, IfOk};
+ghost use Rattle.std.specs.Prelude.{◌≡◌, ◌≤◌, length, IfOk, Some, None, Ok, Err, MatchResult};
+ghost use Rattle.hbc_stdio.specs.Out.{whole, Writes};
 
 use std::io;
 use std::io::{Read, Stdout, Write};
@@ -21,7 +22,7 @@ pub fn read_full<R: Read>(input: &mut R, buf: &mut [u8]) -> io::Result<usize>
     Ok(done)
 }
 
-// Standard output, and the first error of a write: behind it nothing is written.
+// Standard output, and the first error of a write: behind it nothing is written. That all was written is what `end` answers.
 #[derive(Drop)]
 pub struct Out {
     to: Stdout,
@@ -29,24 +30,32 @@ pub struct Out {
 }
 
 impl Out {
-    pub fn new(to: Stdout) -> Out {
+    pub fn new(to: Stdout) -> Out
+        ensures { result ≡ record { «to» = «to»; failed = None } }
+    {
         Out { to, failed: None }
     }
 
     // Whether all went well so far.
-    pub fn is_whole(&self) -> bool {
+    pub fn is_whole(&self) -> bool
+        ensures { result ≡ whole self.now }
+    {
         self.failed.is_none()
     }
 
     // Keeps the error of a write.
-    fn keep(&mut self, written: io::Result<()>) {
+    fn keep(&mut self, written: io::Result<()>)
+        ensures { MatchResult written (λ u. self.new ≡ self.old) (λ e. self.new.failed ≡ Some e) }
+    {
         if let Err(e) = written {
             self.failed = Some(e);
         }
     }
 
     // Writes all of the bytes.
-    pub fn write_all(&mut self, bytes: &[u8]) {
+    pub fn write_all(&mut self, bytes: &[u8])
+        ensures { Writes self.old self.new }
+    {
         if self.is_whole() {
             let written = self.to.write_all(bytes);
             self.keep(written);
@@ -54,15 +63,20 @@ impl Out {
     }
 
     // Writes the number in decimal digits.
-    pub fn print_decimal(&mut self, n: u64) {
-        if self.is_whole() {
-            let written = write!(self.to, "{n}");
-            self.keep(written);
+    pub fn print_decimal(&mut self, n: u64)
+        ensures { Writes self.old self.new }
+    {
+        if !self.is_whole() {
+            return;
         }
+        let written = write!(self.to, "{n}");
+        self.keep(written);
     }
 
     // What became of the writes: the error of the one that failed.
-    pub fn end(self) -> io::Result<()> {
+    pub fn end(self) -> io::Result<()>
+        ensures { MatchResult result (λ u. self.failed ≡ None) (λ e. self.failed ≡ Some e) }
+    {
         match self.failed {
             Some(e) => Err(e),
             None => Ok(()),
