@@ -26,6 +26,6 @@ module _ {A : Type 0} {a b c d : A} where
   apart e = (ap (λ (p : A × A). p.0) e, ap (λ (p : A × A). p.1) e)
 
 -- no values: the tables filled with none are as they were
-pub none_left : (f : ℕ → ℕ) (t : List ℕ) {count : ℕ} → count ≡ 0 → t ≡ filled f count t
+pub as_were : (f : ℕ → ℕ) (t : List ℕ) {count : ℕ} → count ≡ 0 → t ≡ filled f count t
 unfolding filled
-none_left f t e = rw e
+as_were f t e = rw e

@@ -1,15 +1,15 @@
 -- docs/FORMAT.md, section 5.3: a literal series, runs of values behind tags.
-use Rattle.std.specs.Prelude.{ℕ, zero, suc, ◌+◌, ◌-◌, ◌*◌, List, cond, length, leb, eqb}
+use Rattle.std.specs.Prelude.{Result, ℕ, zero, suc, ◌+◌, ◌-◌, ◌*◌, List, cond, length, leb, eqb}
 use Rattle.hbc_bits.specs.Bits.{field}
 use Rattle.hbc_io.specs.Outcome.{Outcome, got, refused, valued, and_then, cursor_at, refusal, refusal_at, limit}
+use Rattle.hbc_io.specs.Answers.{answered}
 use Rattle.hbc_io.specs.Answer.{Answer, gives, refuses, refused_at}
 use Rattle.hbc_io.specs.Lends.{below, choose, Lends}
 use Rattle.hbc_io.specs.Plain.{plain_at}
 use Rattle.hbc_io.specs.declared.Cursor.{Cursor}
+use Rattle.hbc_io.specs.declared.Refusal.{Refusal}
 use Rattle.hbc_rows.specs.Rows.{filled}
 use Rattle.hbc_buffer_literal.specs.Literal.{width_of, literal_of, kind_of}
-use Rattle.hbc_buffer.specs.declared.Series.{Series}
-use Rattle.hbc_buffer.specs.declared.Series.TheVariants as series
 
 -- values of one sort: bits 4 to 6 of their tag, and how many are left
 pub record Run : Type 0 where
@@ -86,13 +86,8 @@ abbrev pub series_tables : List ℕ → ℕ → ℕ → List ℕ → List ℕ �
 series_tables s offset count kinds payloads =
     (filled (kind_at s (cursor_at offset)) count kinds, filled (payload_at s (cursor_at offset)) count payloads)
 
--- what each case of an answer says
-abbrev pub says_series : Series → Answer ℕ
-says_series (series.Used n) = gives n
-says_series (series.Refused r) = refuses r
-
 -- the promise: the answer, and every word of both tables
-abbrev pub ReadSeries : List ℕ → ℕ → ℕ → List ℕ → List ℕ → Series → List ℕ → List ℕ → Type 0
+abbrev pub ReadSeries : List ℕ → ℕ → ℕ → List ℕ → List ℕ → Result ℕ Refusal → List ℕ → List ℕ → Type 0
 ReadSeries s offset count kinds payloads r kinds' payloads' =
-    Lends {W = List ℕ × List ℕ} says_series (series_answer s offset count (length kinds) (length payloads))
+    Lends {W = List ℕ × List ℕ} answered (series_answer s offset count (length kinds) (length payloads))
     (series_tables s offset count kinds payloads) (kinds, payloads) r (kinds', payloads')

@@ -4,34 +4,32 @@
 
 ghost use Rattle.std.specs.Prelude.{◌≡◌, ◌+◌, ◌-◌, ◌*◌, ◌≤◌, ◌<◌, ◌^◌, min, length, true, false};
 ghost use Rattle.hbc_bits.specs.Bits.{le_at, field};
+ghost use Rattle.hbc_io.specs.Answers.{answered};
 ghost use Rattle.hbc_io.specs.Outcome.{cursor_at, limit};
 ghost use Rattle.hbc_rows.specs.Rows.{filled};
 ghost use Rattle.hbc_buffer_literal.specs.Literal.{width_of, literal_of, kind_of};
-ghost use Rattle.hbc_buffer.specs.Series.{after, kind_at, payload_at, used_of, says_series, ReadSeries};
+ghost use Rattle.hbc_buffer.specs.Series.{after, kind_at, payload_at, used_of, ReadSeries};
 ghost use Rattle.hbc_buffer.specs.Private.{byte_at, length_of, filled_from, kinds_from, payloads_from, Whole, Known, Empties, Goes, Writes};
 
 use hbc_bits::bits;
-use hbc_buffer_literal::{kind, read_payload, width};
-use hbc_io::{Cursor, LIMIT, ReadU8, ReadU64, Refusal, read_u8, read_u64, refuse};
-
-#[derive(Clone, Copy)]
-pub enum Series {
-    // how many bytes the series has
-    Used(u32),
-    Refused(Refusal),
-}
+use hbc_buffer_literal::{
+    INTEGER, NUMBER, STRING_U8, STRING_U16, STRING_U32, kind, read_payload, width,
+};
+use hbc_io::{Cursor, LIMIT, Reason, Refusal, read_u8, read_u64, refuse};
 
 // A byte, 0 past the end.
+#[tactic(auto, unfolding(crate::specs::Private::byte_at), using(hbc_io::proofs::Plains::plain_lt))]
 fn byte(s: &[u8], at: usize) -> u64
     ensures { (result ≡ byte_at s.now at) × (result < 256) }
 {
     match read_u8(s, Cursor { at }) {
-        ReadU8::Got(v, _) => v as u64,
-        ReadU8::Refused(_, _) => 0,
+        Ok((v, _)) => v as u64,
+        Err(_) => 0,
     }
 }
 
 // The length that a tag byte and the byte after it give.
+#[tactic(auto, unfolding(crate::specs::Private::length_of))]
 fn length_of(b: u64, second: u64) -> u64
     requires { second < 256 }
     ensures { result ≡ length_of b second }
@@ -57,6 +55,7 @@ fn width_of(b: u64) -> usize
 
 // Whether a tag byte is the last one again, and its run is there with `spare` bytes more. The next tag's place is then known before this one's
 // length and width are made out.
+#[tactic(auto, using(crate::proofs::Fills::small_product))]
 fn again(
     b: u64,
     last: u64,
@@ -82,6 +81,7 @@ fn again(
 }
 
 // Whether a tag byte has no values, whatever its kind: bits 0 to 3 and bit 7 are 0. So is what is read past the end.
+#[tactic(auto, using(crate::proofs::Tags::nibble_zero))]
 fn empty(b: u64) -> bool
     ensures { (result ≡ true → (b < 128) × (field 0 4 b ≡ 0)) × (result ≡ false → b ≡ 0 → ⊥) }
 {
@@ -94,19 +94,17 @@ fn empty(b: u64) -> bool
 }
 
 // Past the empty tags of one byte that stand from `at` on, of any kinds: nothing else is made out of them.
+#[tactic(auto, using(crate::proofs::Going::empties_first, crate::proofs::Going::empties_on))]
 fn past_empty(s: &[u8], at: usize) -> usize
     requires { (length s.now ≤ limit) × (at ≤ length s.now) }
     ensures { Empties s.now at result }
 {
-    let mut p = at;
-    while p < s.len() {
-        if empty(byte(s, p)) {
-            p += 1;
-        } else {
+    for p in at..s.len() {
+        if !empty(byte(s, p)) {
             return p;
         }
     }
-    p
+    s.len()
 }
 
 // Where a pass stands: a place in the file, and how many values are read.
@@ -131,6 +129,7 @@ fn past_same(
 {
     let mut at = from;
     let mut done = first;
+    // not a `for`: a turn goes on by a run, not by one
     while done < count {
         if again(byte(s, at), b, size, wide, count - done, s.len() - at, 0) {
             at += 1 + size * wide;
@@ -143,20 +142,21 @@ fn past_same(
 }
 
 // Reads `count` values run by run and writes nothing. A run takes one test, however long it is; tag byte, length and width of the last one are kept.
-fn check(s: &[u8], from: usize, count: usize) -> Series
+fn check(s: &[u8], from: usize, count: usize) -> Result<u32, Refusal>
     requires { (length s.now ≤ limit) × (from ≤ length s.now) × (count < 2 ^ 32) }
-    ensures { says_series result ≡ used_of from (after count s.now (cursor_at from)) }
+    ensures { answered result ≡ used_of from (after count s.now (cursor_at from)) }
 {
     let mut at = from;
     let mut done: usize = 0;
     let mut last: u64 = 256;
     let mut size: usize = 0;
     let mut wide: usize = 0;
+    // not a `for`: a turn goes on by a run, not by one
     while done < count {
         let b = byte(s, at);
         if empty(b) {
             if s.len() <= at {
-                return Series::Refused(refuse(3, done as u32));
+                return Err(refuse(Reason::Cut as u32, done as u32));
             }
             at = past_empty(s, at + 1);
         } else if b < 48 {
@@ -170,13 +170,13 @@ fn check(s: &[u8], from: usize, count: usize) -> Series
         } else {
             let first = at + 1 + (bits(b, 7, 1) as usize);
             if s.len() < first {
-                return Series::Refused(refuse(3, done as u32));
+                return Err(refuse(Reason::Cut as u32, done as u32));
             }
             let n = least(length_of(b, byte(s, at + 1)) as usize, count - done);
             let w = width_of(b);
             let room = s.len() - first;
             if room < n * w {
-                return Series::Refused(refuse(3, (done + room / w) as u32));
+                return Err(refuse(Reason::Cut as u32, (done + room / w) as u32));
             }
             at = first + n * w;
             done += n;
@@ -185,7 +185,7 @@ fn check(s: &[u8], from: usize, count: usize) -> Series
             wide = w;
         }
     }
-    Series::Used((at - from) as u32)
+    Ok((at - from) as u32)
 }
 
 // Entries `first` to `first + n - 1` of a table of kinds.
@@ -193,21 +193,20 @@ fn fill_kinds(table: &mut [u32], first: usize, n: usize, k: u32)
     requires { first + n ≤ length table.old }
     ensures { table.new ≡ kinds_from k first n table.old }
 {
-    let mut i: usize = 0;
-    while i < n {
+    for i in 0..n {
         table[first + i] = k;
-        i += 1;
     }
 }
 
 // The number of a value's bytes that are known to be there.
+#[tactic(auto, using(hbc_io::proofs::Plains::plain_value, hbc_io::proofs::Plains::plain_there))]
 fn payload(s: &[u8], at: usize, tag: u64) -> u64
     requires { (length s.now ≤ limit) × (at + width_of tag ≤ length s.now) }
     ensures { result ≡ le_at s.now at (width_of tag) }
 {
     match read_payload(s, Cursor { at }, tag) {
-        ReadU64::Got(v, _) => v,
-        ReadU64::Refused(_, _) => 0,
+        Ok((v, _)) => v,
+        Err(_) => 0,
     }
 }
 
@@ -218,11 +217,9 @@ fn fill_payloads(s: &[u8], at: usize, tag: u64, table: &mut [u64], first: usize,
 {
     let w = width(tag);
     let mut p = at;
-    let mut i: usize = 0;
-    while i < n {
+    for i in 0..n {
         table[first + i] = payload(s, p, tag);
         p += w;
-        i += 1;
     }
     p
 }
@@ -233,23 +230,24 @@ fn fill_run(s: &[u8], at: usize, tag: u64, table: &mut [u64], first: usize, n: u
     ensures { (result ≡ at + n * width_of tag) × (table.new ≡ payloads_from s.now at (width_of tag) first n table.old) }
 {
     match tag {
-        3 => fill_payloads(s, at, 3, table, first, n),
-        4 => fill_payloads(s, at, 4, table, first, n),
-        5 => fill_payloads(s, at, 5, table, first, n),
-        6 => fill_payloads(s, at, 6, table, first, n),
-        7 => fill_payloads(s, at, 7, table, first, n),
+        NUMBER => fill_payloads(s, at, NUMBER, table, first, n),
+        STRING_U32 => fill_payloads(s, at, STRING_U32, table, first, n),
+        STRING_U16 => fill_payloads(s, at, STRING_U16, table, first, n),
+        STRING_U8 => fill_payloads(s, at, STRING_U8, table, first, n),
+        INTEGER => fill_payloads(s, at, INTEGER, table, first, n),
         _ => fill_payloads(s, at, 0, table, first, n),
     }
 }
 
 // The number of eight bytes that are known to be there.
+#[tactic(auto, using(hbc_io::proofs::Plains::plain_value, hbc_io::proofs::Plains::plain_there))]
 fn word(s: &[u8], at: usize) -> u64
     requires { (length s.now ≤ limit) × (at + 8 ≤ length s.now) }
     ensures { result ≡ le_at s.now at 8 }
 {
     match read_u64(s, Cursor { at }) {
-        ReadU64::Got(v, _) => v,
-        ReadU64::Refused(_, _) => 0,
+        Ok((v, _)) => v,
+        Err(_) => 0,
     }
 }
 
@@ -270,12 +268,10 @@ fn fill_short(
     ensures payloads_after { payloads.new ≡ payloads_from s.now at w first n payloads.old }
 {
     let mut p = at;
-    let mut i: usize = 0;
-    while i < n {
+    for i in 0..n {
         kinds[first + i] = k;
         payloads[first + i] = bits(word(s, p), 0, 8 * (w as u32));
         p += w;
-        i += 1;
     }
 }
 
@@ -285,11 +281,9 @@ fn fill_none(kinds: &mut [u32], payloads: &mut [u64], k: u32, first: usize, n: u
     ensures kinds_after { kinds.new ≡ kinds_from k first n kinds.old }
     ensures payloads_after { payloads.new ≡ filled_from first n (λ _. 0) payloads.old }
 {
-    let mut i: usize = 0;
-    while i < n {
+    for i in 0..n {
         kinds[first + i] = k;
         payloads[first + i] = 0;
-        i += 1;
     }
 }
 
@@ -341,6 +335,7 @@ fn write_same(
 {
     let mut at = from;
     let mut done = first;
+    // not a `for`: a turn goes on by a run, not by one
     while done < count {
         if again(byte(s, at), b, size, wide, count - done, s.len() - at, 8) {
             fill_short(s, at + 1, wide, k, kinds, payloads, done, size);
@@ -409,6 +404,7 @@ fn write(s: &[u8], from: usize, count: usize, kinds: &mut [u32], payloads: &mut 
     let mut last: u64 = 256;
     let mut size: usize = 0;
     let mut wide: usize = 0;
+    // not a `for`: a turn goes on by a run, not by one
     while done < count {
         let b = byte(s, at);
         let tag = bits(b, 4, 3);
@@ -439,37 +435,34 @@ fn write(s: &[u8], from: usize, count: usize, kinds: &mut [u32], payloads: &mut 
 }
 
 // Reads `count` values of the series at `offset` into the two tables, kind and payload of each; answers how many bytes they take.
+#[tactic(auto, unfolding(crate::specs::Series::series_answer, hbc_io::specs::Lends::below, hbc_io::specs::Lends::choose), using(crate::proofs::Exits::as_were))]
 pub fn read_series(
     s: &[u8],
     offset: u32,
     count: u32,
     kinds: &mut [u32],
     payloads: &mut [u64],
-) -> Series
+) -> Result<u32, Refusal>
     ensures { ReadSeries s.now offset count kinds.old payloads.old result kinds.new payloads.new }
 {
     let from = offset as usize;
     let n = count as usize;
     if LIMIT < s.len() {
-        return Series::Refused(refuse(1, 0));
+        return Err(refuse(Reason::TooLong as u32, 0));
     }
     if count == 0 {
-        return Series::Used(0);
+        return Ok(0);
     }
     if s.len() <= from {
-        return Series::Refused(refuse(7, 0));
+        return Err(refuse(Reason::SeriesPastEnd as u32, 0));
     }
     if kinds.len() < n {
-        return Series::Refused(refuse(4, 0));
+        return Err(refuse(Reason::TooFewRows as u32, 0));
     }
     if payloads.len() < n {
-        return Series::Refused(refuse(4, 0));
+        return Err(refuse(Reason::TooFewRows as u32, 0));
     }
-    match check(s, from, n) {
-        Series::Used(used) => {
-            write(s, from, n, kinds, payloads);
-            Series::Used(used)
-        }
-        Series::Refused(r) => Series::Refused(r),
-    }
+    let used = check(s, from, n)?;
+    write(s, from, n, kinds, payloads);
+    Ok(used)
 }

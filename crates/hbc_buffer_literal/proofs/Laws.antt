@@ -67,14 +67,6 @@ integer_is s c = sym (valued_on (twos 32) Integer (plain_at 4 s c))
 
 -- any literal, from the number of its bytes
 module _ (t : ℕ) (s : List ℕ) (c : Cursor) where
-  pub literal_got : {v : ℕ} {n : Cursor} → plain_at (width_of t) s c ≡ got v n → got (literal_of t v) n ≡ literal_at t s c
-  unfolding literal_at
-  literal_got e = rw e
-
-  pub literal_refused : {r : Refusal} {n : Cursor} → plain_at (width_of t) s c ≡ refused r n → refused r n ≡ literal_at t s c
-  unfolding literal_at
-  literal_refused e = rw e
-
   -- its number fits 32 bits if it is no float
   pub payload_lt : {v : ℕ} {n : Cursor} → Bytes s → (t ≡ 3 → ⊥) → plain_at (width_of t) s c ≡ got v n → v < 2 ^ 32
   payload_lt {v} {n} b h e =

@@ -2,13 +2,11 @@
 use Rattle.std.specs.Prelude.{ℕ, List, true, false, cond, eqb}
 use Rattle.std.specs.Float.Ieee.{of_bits}
 use Rattle.std.specs.Float.{binary64}
-use Rattle.hbc_io.specs.Outcome.{Outcome, got, refused, valued, twos}
+use Rattle.hbc_io.specs.Outcome.{Outcome, valued, twos}
 use Rattle.hbc_io.specs.Plain.{plain_at}
 use Rattle.hbc_io.specs.declared.Cursor.{Cursor}
 use Rattle.hbc_buffer_literal.specs.declared.Literal.{Literal}
 use Rattle.hbc_buffer_literal.specs.declared.Literal.TheVariants.{Null, Bool as Truth, Number, String, Integer}
-use Rattle.hbc_buffer_literal.specs.declared.ReadLiteral.{ReadLiteral}
-use Rattle.hbc_buffer_literal.specs.declared.ReadLiteral.TheVariants as read
 
 -- bits 4 to 6 give null, true, false, f64, u32 string, u16 string, u8 string, i32, from 0 to 7: how many bytes such a value has.
 -- A number from 8 up, which no three bits are, counts as null
@@ -39,8 +37,3 @@ kind_of (Truth false) = 2
 kind_of (Number x) = 3
 kind_of (String n) = 4
 kind_of (Integer z) = 5
-
--- what each case of an answer says
-abbrev pub says_literal : ReadLiteral → Outcome Literal
-says_literal (read.Got v n) = got v n
-says_literal (read.Refused r n) = refused r n

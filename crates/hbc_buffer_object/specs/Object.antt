@@ -1,10 +1,11 @@
 -- docs/FORMAT.md, section 5.4: an object's series, read from one of two lent buffers.
-use Rattle.std.specs.Prelude.{ℕ, List, Bool, cond, length, eqb}
+use Rattle.std.specs.Prelude.{ℕ, List, Bool, Result, cond, length, eqb}
 use Rattle.std.specs.Borrow.{Bor}
-use Rattle.hbc_io.specs.Outcome.{refusal_at}
-use Rattle.hbc_io.specs.Answer.{Answer, gives, refuses}
-use Rattle.hbc_io.specs.Lends.{Tells}
+use Rattle.hbc_io.specs.Answer.{Answer, gives, and_then}
+use Rattle.hbc_io.specs.Answers.{answered}
+use Rattle.hbc_io.specs.Lends.{Lends}
 use Rattle.hbc_io.specs.Plain.{span_of, part_of, IsPart}
+use Rattle.hbc_io.specs.declared.Refusal.{Refusal}
 use Rattle.hbc_buffer.specs.Series.{series_answer, series_tables}
 use Rattle.hbc_buffer_object.specs.declared.Object.{Object}
 
@@ -28,20 +29,19 @@ ObjectPart keys values o = IsPart (named o.«yes» keys values) (span_of o.start
 abbrev pub start_of : ℕ → ℕ → ℕ
 start_of offset count = cond (eqb count 0) 0 offset
 
--- the object of a series' answer: where the bytes of the series are; none if it is refused
-abbrev pub object_of : Bool → ℕ → ℕ → Answer ℕ → Object
-object_of b offset count (gives n) = record { «yes» = b; start = start_of offset count; len = n; refusal = refusal_at 0 0 }
-object_of b offset count (refuses r) = record { «yes» = b; start = 0; len = 0; refusal = r }
+-- the object of a series of n bytes: where they are
+abbrev pub object_of : Bool → ℕ → ℕ → ℕ → Object
+object_of b offset count n = record { «yes» = b; start = start_of offset count; len = n }
 
--- what an object says: the bytes used, or a refusal, whose number is not 0
-abbrev pub says_object : Object → Answer ℕ
-says_object o = cond (eqb o.refusal.number 0) (gives o.len) (refuses o.refusal)
+-- the object of a series' answer; refused, there is none
+abbrev pub object_answer : Bool → ℕ → ℕ → Answer ℕ → Answer Object
+object_answer b offset count a = and_then a (λ n. gives (object_of b offset count n))
 
 -- the promise: the object of the series in the buffer s that was named, and every word of both tables
-abbrev pub ObjectIn : List ℕ → Bool → ℕ → ℕ → List ℕ → List ℕ → Object → List ℕ → List ℕ → Type 0
+abbrev pub ObjectIn : List ℕ → Bool → ℕ → ℕ → List ℕ → List ℕ → Result Object Refusal → List ℕ → List ℕ → Type 0
 ObjectIn s b offset count kinds payloads r kinds' payloads' =
-    Tells {W = List ℕ × List ℕ} says_object (λ (o : Object). o) (object_of b offset count (series_answer s offset count (length kinds) (length payloads)))
+    Lends {W = List ℕ × List ℕ} answered (object_answer b offset count (series_answer s offset count (length kinds) (length payloads)))
     (series_tables s offset count kinds payloads) (kinds, payloads) r (kinds', payloads')
 
-abbrev pub ReadObject : List ℕ → List ℕ → Bool → ℕ → ℕ → List ℕ → List ℕ → Object → List ℕ → List ℕ → Type 0
+abbrev pub ReadObject : List ℕ → List ℕ → Bool → ℕ → ℕ → List ℕ → List ℕ → Result Object Refusal → List ℕ → List ℕ → Type 0
 ReadObject keys values b = ObjectIn (named b keys values) b

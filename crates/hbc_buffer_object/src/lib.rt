@@ -2,20 +2,17 @@
 #![tactic(auto)]
 
 ghost use Rattle.std.specs.Prelude.{◌≡◌};
-ghost use Rattle.hbc_buffer.specs.Series.{says_series};
-ghost use Rattle.hbc_io.specs.Plain.{span_of, IsPart};
-ghost use Rattle.hbc_buffer_object.specs.Object.{named, ObjectPart, start_of, object_of, ReadObject};
+ghost use Rattle.hbc_buffer_object.specs.Object.{named, ObjectPart, start_of, ReadObject};
 
-use hbc_buffer::{Series, read_series};
-use hbc_io::{Refusal, Span, refuse};
+use hbc_buffer::read_series;
+use hbc_io::{Refusal, Span, part};
 
-// What was read: of the keys or not, and where its bytes are there. Refused: no bytes, and the refusal; accepted, its number is 0.
+// What was read: of the keys or not, and where its bytes are there.
 #[derive(Clone, Copy)]
 pub struct Object {
     pub yes: bool,
     pub start: usize,
     pub len: usize,
-    pub refusal: Refusal,
 }
 
 // The lent buffer that is named: yes means keys.
@@ -28,17 +25,15 @@ fn choose<'k: 'r, 'v: 'r, 'r>(keys: &'k [u8], values: &'v [u8], yes: bool) -> &'
     values
 }
 
-fn part(s: &[u8], start: usize, len: usize) -> &[u8]
-    ensures { IsPart s.entry (span_of start len) result }
-{
-    hbc_io::part(s, Span { start, len })
-}
-
 // The bytes of a series that was read, as a part of the buffer that it was read from, at a lifetime that both buffers outlive.
 pub fn object_part<'k: 'r, 'v: 'r, 'r>(keys: &'k [u8], values: &'v [u8], o: Object) -> &'r [u8]
     ensures { ObjectPart keys.entry values.entry o result }
 {
-    part(choose(keys, values, o.yes), o.start, o.len)
+    let bytes = Span {
+        start: o.start,
+        len: o.len,
+    };
+    part(choose(keys, values, o.yes), bytes)
 }
 
 fn start_of(offset: u32, count: u32) -> usize
@@ -50,25 +45,6 @@ fn start_of(offset: u32, count: u32) -> usize
     offset as usize
 }
 
-fn object_of(yes: bool, offset: u32, count: u32, r: Series) -> Object
-    ensures { result ≡ object_of yes offset count (says_series r) }
-{
-    match r {
-        Series::Used(n) => Object {
-            yes,
-            start: start_of(offset, count),
-            len: n as usize,
-            refusal: refuse(0, 0),
-        },
-        Series::Refused(r) => Object {
-            yes,
-            start: 0,
-            len: 0,
-            refusal: r,
-        },
-    }
-}
-
 // Reads the series at `offset` of the named buffer into the two tables. Only that buffer is tested.
 pub fn read_object<'k, 'v>(
     keys: &'k [u8],
@@ -78,22 +54,15 @@ pub fn read_object<'k, 'v>(
     count: u32,
     kinds: &mut [u32],
     payloads: &mut [u64],
-) -> Object
+) -> Result<Object, Refusal>
     ensures { ReadObject keys.now values.now yes offset count
         kinds.old payloads.old result kinds.new payloads.new }
 {
-    if yes {
-        return object_of(
-            yes,
-            offset,
-            count,
-            read_series(keys, offset, count, kinds, payloads),
-        );
-    }
-    object_of(
+    let s = choose(keys, values, yes);
+    let len = read_series(s, offset, count, kinds, payloads)?;
+    Ok(Object {
         yes,
-        offset,
-        count,
-        read_series(values, offset, count, kinds, payloads),
-    )
+        start: start_of(offset, count),
+        len: len as usize,
+    })
 }

@@ -1,5 +1,6 @@
 // The public calls for C and Rust: numbers, and slices as a pointer and a count. Each is a line over the boundary code of its layer (hbc_c_io,
-// hbc_c_function, ..), where it is proved. hbc_c_c exports them: an archive exports the functions of one crate alone, which no crate can name.
+// hbc_c_function, ..), where it is proved; parameters that go together stay apart, as C has them.
+// hbc_c_c exports them: an archive exports the functions of one crate alone, which no crate can name.
 #![tactic(auto)]
 
 pub mod buffer;

@@ -3,11 +3,13 @@ use Rattle.std.specs.Prelude.{ℕ, ◌≡◌, List, Bool, not, eqb, Float}
 use Rattle.hbc_bits.specs.Bits.{field}
 use Rattle.hbc_io.specs.Outcome.{Outcome, cursor_at, valued, low_bits}
 use Rattle.hbc_io.specs.Answer.{told}
+use Rattle.hbc_io.specs.Answers.{answered}
 use Rattle.hbc_buffer_literal.specs.declared.Literal.{Literal}
 use Rattle.hbc_buffer_literal.specs.declared.Literal.TheVariants.{Null, Bool as Truth, Number, String, Integer}
 use Rattle.hbc_buffer_literal.specs.Literal.{kind_of, literal_at}
-use Rattle.hbc_buffer.specs.Series.{says_series, ReadSeries}
-use Rattle.hbc_buffer_object.specs.Object.{says_object, ReadObject}
+use Rattle.hbc_buffer.specs.Series.{ReadSeries}
+use Rattle.hbc_buffer_object.specs.declared.Object.{Object}
+use Rattle.hbc_buffer_object.specs.Object.{ReadObject}
 use Rattle.hbc_c_code.specs.Code.{value_in}
 use Rattle.hbc_c_code.specs.Told.{Told, Moves}
 
@@ -40,7 +42,7 @@ ToldLiteral tag s at = LiteralTold (literal_at (field 4 3 tag) s (cursor_at at))
 -- a series: the answer is the bytes used
 abbrev pub ToldSeries : List ℕ → ℕ → ℕ → List ℕ → List ℕ → ℕ → List ℕ → List ℕ → Type 0
 ToldSeries s offset count kinds payloads r kinds' payloads' =
-    Told {W = List ℕ × List ℕ} (λ n. n) says_series (λ a w. ReadSeries s offset count kinds payloads a w.0 w.1) r (kinds', payloads')
+    Told {W = List ℕ × List ℕ} (λ n. n) answered (λ a w. ReadSeries s offset count kinds payloads a w.0 w.1) r (kinds', payloads')
 
 -- the yes or no as a number: 0 is no
 abbrev pub yes_of : ℕ → Bool
@@ -49,5 +51,5 @@ yes_of n = not (eqb n 0)
 -- an object: the answer is the bytes used
 abbrev pub ToldObject : List ℕ → List ℕ → ℕ → ℕ → ℕ → List ℕ → List ℕ → ℕ → List ℕ → List ℕ → Type 0
 ToldObject keys values n offset count kinds payloads r kinds' payloads' =
-    Told {W = List ℕ × List ℕ} (λ k. k) says_object (λ o w. ReadObject keys values (yes_of n) offset count kinds payloads o w.0 w.1)
+    Told {W = List ℕ × List ℕ} (λ (o : Object). o.len) answered (λ a w. ReadObject keys values (yes_of n) offset count kinds payloads a w.0 w.1)
     r (kinds', payloads')

@@ -3,13 +3,9 @@
 
 ghost use Rattle.std.specs.Prelude.{◌≡◌};
 ghost use Rattle.hbc_io.specs.Outcome.{low_bits};
-ghost use Rattle.hbc_buffer_object.specs.Object.{says_object};
-ghost use Rattle.hbc_c_code.specs.Code.{code_in};
 ghost use Rattle.hbc_c_buffer.specs.Buffer.{ToldLiteral, ToldSeries, ToldObject};
 
-use hbc_buffer::Series;
-use hbc_buffer_literal::{Literal, ReadLiteral};
-use hbc_buffer_object::Object;
+use hbc_buffer_literal::{Literal, ValueKind};
 use hbc_c_code::code;
 use hbc_io::Cursor;
 
@@ -36,37 +32,41 @@ pub fn read_literal(
         result at.new kind.new number.new word.new }
 {
     match hbc_buffer_literal::read_literal(s, Cursor { at: *at }, tag) {
-        ReadLiteral::Got(v, next) => {
+        Ok((v, next)) => {
             *at = next.at;
             match v {
                 Literal::Null => {
-                    *kind = 0;
+                    *kind = ValueKind::Null as u32;
                 }
-                Literal::Bool(b) => {
-                    *kind = if b { 1 } else { 2 };
+                Literal::Bool(true) => {
+                    *kind = ValueKind::True as u32;
+                }
+                Literal::Bool(false) => {
+                    *kind = ValueKind::False as u32;
                 }
                 Literal::Number(x) => {
-                    *kind = 3;
+                    *kind = ValueKind::Number as u32;
                     *number = x;
                 }
                 Literal::String(n) => {
-                    *kind = 4;
+                    *kind = ValueKind::String as u32;
                     *word = n;
                 }
                 Literal::Integer(z) => {
-                    *kind = 5;
+                    *kind = ValueKind::Integer as u32;
                     *word = word_of(z);
                 }
             }
             0
         }
-        ReadLiteral::Refused(r, stays) => {
-            *at = stays.at;
-            code(r)
+        Err(stopped) => {
+            *at = stopped.cursor.at;
+            code(stopped.refusal)
         }
     }
 }
 
+#[tactic(auto, using(hbc_c_code::proofs::Tolds::told_by))]
 pub fn read_series(
     s: &[u8],
     offset: u32,
@@ -77,20 +77,9 @@ pub fn read_series(
     ensures { ToldSeries s.now offset count kinds.old payloads.old result kinds.new payloads.new }
 {
     match hbc_buffer::read_series(s, offset, count, kinds, payloads) {
-        Series::Used(n) => n as u64,
-        Series::Refused(r) => code(r),
+        Ok(used) => used as u64,
+        Err(r) => code(r),
     }
-}
-
-fn object_code(o: Object) -> u64
-    ensures { result ≡ code_in (λ n. n) (says_object o) }
-{
-    let len = o.len;
-    let refusal = o.refusal;
-    if refusal.number == 0 {
-        return len as u64;
-    }
-    code(refusal)
 }
 
 // `yes` other than 0 names the keys. The bytes used stand at `offset` of the named buffer.
@@ -106,13 +95,8 @@ pub fn read_object(
     ensures { ToldObject keys.now values.now yes offset count kinds.old payloads.old
         result kinds.new payloads.new }
 {
-    object_code(hbc_buffer_object::read_object(
-        keys,
-        values,
-        yes != 0,
-        offset,
-        count,
-        kinds,
-        payloads,
-    ))
+    match hbc_buffer_object::read_object(keys, values, yes != 0, offset, count, kinds, payloads) {
+        Ok(o) => o.len as u64,
+        Err(r) => code(r),
+    }
 }

@@ -1,4 +1,4 @@
-// The archive libhbc_c.a for C and Rust (include/hbc.h): each call of hbc_c under its own name and its own promise.
+// The archive libhbc_c.a for C and Rust (include/hbc.h): each call of hbc_c under its own name and its own promise, its parameters apart, as C has them.
 #![tactic(auto)]
 
 pub mod buffer;

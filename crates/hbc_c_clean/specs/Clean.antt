@@ -1,9 +1,7 @@
 -- docs/FORMAT.md, sections 8.1 and 12.7: the profile with its layout and its answer as numbers, and a word lent for the place.
 use Rattle.std.specs.Prelude.{ℕ, min, ◌≡◌, List}
 use Rattle.hbc_io.specs.Answer.{Answer, gives, refuses}
-use Rattle.hbc_function_record.specs.declared.Layout.{Layout}
-use Rattle.hbc_clean.specs.declared.Bundle.{Bundle}
-use Rattle.hbc_clean.specs.Bundle.{Given, given, Verdict, clean, broken, says_bundle, check_bundle}
+use Rattle.hbc_clean.specs.Bundle.{Given, given, Bundle, Verdict, clean, broken, says_bundle, check_bundle}
 use Rattle.hbc_c_code.specs.Told.{Told}
 use Rattle.hbc_c_function.specs.Function.{ByLayout}
 

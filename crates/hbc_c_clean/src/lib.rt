@@ -3,14 +3,14 @@
 #![tactic(auto)]
 
 ghost use Rattle.std.specs.Prelude.{◌≡◌, min};
-ghost use Rattle.hbc_clean.specs.Bundle.{given, says_bundle};
+ghost use Rattle.hbc_clean.specs.Bundle.{says_bundle};
 ghost use Rattle.hbc_c_code.specs.Code.{code_in};
-ghost use Rattle.hbc_c_clean.specs.Clean.{rule_of, place_word, place_left, BundleTold, ToldBundle};
+ghost use Rattle.hbc_c_clean.specs.Clean.{rule_of, place_word, place_left, ToldBundle};
 
 use hbc_c_code::code;
 use hbc_clean::Bundle;
 use hbc_function_record::Layout;
-use hbc_io::refuse;
+use hbc_io::{Reason, refuse};
 
 // The last place that a word can tell.
 const LAST_PLACE: usize = 0xFFFF_FFFF;
@@ -28,39 +28,16 @@ fn tell(b: Bundle, place: &mut u32) -> u64
     ensures { (result ≡ code_in rule_of (says_bundle b)) × (place.new ≡ place_left (says_bundle b) place.old) }
 {
     match b {
-        Bundle::Clean => 0,
-        Bundle::Broken(rule, at) => {
-            *place = place_word(at);
-            rule as u64
+        Ok(None) => 0,
+        Ok(Some(broken)) => {
+            *place = place_word(broken.place);
+            broken.rule as u64
         }
-        Bundle::Refused(r) => code(r),
+        Err(r) => code(r),
     }
 }
 
-fn check_as(
-    file: &[u8],
-    layout: Layout,
-    start: usize,
-    count: u32,
-    kinds: &[u32],
-    strings: u32,
-    small: &[u32],
-    overflow: &[u32],
-    storage: &[u8],
-    keys: &[u8],
-    values: &[u8],
-    series: &[u32],
-    place: &mut u32,
-) -> u64
-    ensures { BundleTold (given file.now layout start count kinds.now strings small.now overflow.now
-        storage.now keys.now values.now series.now) place.old result place.new }
-{
-    let found = hbc_clean::check_bundle(
-        file, layout, start, count, kinds, strings, small, overflow, storage, keys, values, series,
-    );
-    tell(found, place)
-}
-
+// The arguments are those of the export (the C interface).
 pub fn check_bundle(
     file: &[u8],
     layout: u32,
@@ -79,39 +56,11 @@ pub fn check_bundle(
     ensures { ToldBundle file.now layout start count kinds.now strings small.now overflow.now
         storage.now keys.now values.now series.now place.old result place.new }
 {
-    if layout == 0 {
-        return check_as(
-            file,
-            Layout::Legacy16,
-            start,
-            count,
-            kinds,
-            strings,
-            small,
-            overflow,
-            storage,
-            keys,
-            values,
-            series,
-            place,
-        );
-    }
-    if layout == 1 {
-        return check_as(
-            file,
-            Layout::Modern12,
-            start,
-            count,
-            kinds,
-            strings,
-            small,
-            overflow,
-            storage,
-            keys,
-            values,
-            series,
-            place,
-        );
-    }
-    code(refuse(12, 0))
+    let Ok(layout) = Layout::try_from(layout) else {
+        return code(refuse(Reason::NoSuchLayout as u32, 0));
+    };
+    let found = hbc_clean::check_bundle(
+        file, layout, start, count, kinds, strings, small, overflow, storage, keys, values, series,
+    );
+    tell(found, place)
 }

@@ -6,7 +6,6 @@ ghost use Rattle.hbc_debug.specs.Debug.{tables};
 ghost use Rattle.hbc_c_debug.specs.Debug.{counts, lent, ToldDebug};
 
 use hbc_c_code::code;
-use hbc_debug::Debugged;
 
 pub fn read_debug(
     file: &[u8],
@@ -30,14 +29,15 @@ pub fn read_debug(
         exact.new) }
 {
     match hbc_debug::read_debug(file, offset, strings, scopes, names, callees) {
-        Debugged::Read(k, e) => {
-            *string_count = k.strings;
-            *scope_count = k.scopes;
-            *name_count = k.names;
-            *callee_count = k.callees;
-            *exact = e as u32;
+        Ok(read) => {
+            let counts = read.value;
+            *string_count = counts.strings;
+            *scope_count = counts.scopes;
+            *name_count = counts.names;
+            *callee_count = counts.callees;
+            *exact = read.exact as u32;
             0
         }
-        Debugged::Refused(r) => code(r),
+        Err(r) => code(r),
     }
 }

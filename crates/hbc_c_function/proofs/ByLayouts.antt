@@ -1,7 +1,8 @@
--- The three ways a layout's number goes, and that a call by one leaves one number and one value for the words.
+-- The two ways a layout's number goes, and that a call by one leaves one number and one value for the words.
 use Prim.Native.Nat.{ℕ}
 use mathlib.Core.Path.{◌≡◌, refl, sym, ◌∙◌}
-use mathlib.Core.Bool.{Bool, true, false}
+use mathlib.Core.Bool.{Bool, true, false, cond}
+use Rattle.std.specs.Prelude.{Result, Ok, Err}
 use native.Mathlib.Omega.{arith}
 use lib.Dec.{eqb}
 use borrow.Author.Tests.{eqb-true, eqb-false}
@@ -9,6 +10,8 @@ use Rattle.hbc_io.specs.Outcome.{refusal_at}
 use Rattle.hbc_function_record.specs.declared.Layout.{Layout}
 use Rattle.hbc_function_record.specs.declared.Layout.TheVariants as lay
 use Rattle.hbc_c_code.specs.Code.{code_of}
+use Rattle.hbc_function_record.specs.declared.UnknownLayout.{UnknownLayout}
+use Rattle.hbc_function_record.specs.Row.{layout_of}
 use Rattle.hbc_c_function.specs.Function.{ByLayout}
 
 module _ {W : Type 0} {n : ℕ} {P : Layout → ℕ → W → Type 0} {before : W} {r : ℕ} where
@@ -20,6 +23,24 @@ module _ {W : Type 0} {n : ℕ} {P : Layout → ℕ → W → Type 0} {before : 
 
   pub by_none : (n ≡ 0 → ⊥) → (n ≡ 1 → ⊥) → r ≡ code_of (refusal_at 12 0) → ByLayout n P before r before
   by_none f g e = record { legacy = λ h. absurd (f h); modern = λ h. absurd (g h); malformed = λ a b. (e, refl) }
+
+-- by the layout that a number is of
+module _ {W : Type 0} (n : ℕ) (P : Layout → ℕ → W → Type 0) (before : W) {r : ℕ} where
+  pub by_some : {l : Layout} {after : W} → layout_of n ≡ Ok l → P l r after → ByLayout n P before r after
+  by_some {l} {after} g p = by (eqb n 0) (eqb n 1) refl refl g
+    where
+      by : (x y : Bool) → eqb n 0 ≡ x → eqb n 1 ≡ y → cond {A = Result Layout UnknownLayout} x (Ok lay.Legacy16) (cond y (Ok lay.Modern12) (Err (record { number = n }))) ≡ Ok l → ByLayout n P before r after
+      by true y e f g = let q : l ≡ lay.Legacy16 = cc in by_legacy (eqb-true n 0 e) (rw q at p)
+      by false true e f g = let q : l ≡ lay.Modern12 = cc in by_modern (eqb-true n 1 f) (rw q at p)
+      by false false e f g = absurd (cc)
+
+  pub by_other : {e : UnknownLayout} → layout_of n ≡ Err e → r ≡ code_of (refusal_at 12 0) → ByLayout n P before r before
+  by_other {e} g p = by (eqb n 0) (eqb n 1) refl refl g
+    where
+      by : (x y : Bool) → eqb n 0 ≡ x → eqb n 1 ≡ y → cond {A = Result Layout UnknownLayout} x (Ok lay.Legacy16) (cond y (Ok lay.Modern12) (Err (record { number = n }))) ≡ Err e → ByLayout n P before r before
+      by true y a b g = absurd (cc)
+      by false true a b g = absurd (cc)
+      by false false a b g = by_none (eqb-false n 0 a) (eqb-false n 1 b) p
 
 -- what follows for every layout, and where there is none, follows
 pub by_layout : {W : Type 0} {P : Layout → ℕ → W → Type 0} {n : ℕ} {before : W} {r : ℕ} {after : W} {G : Type 0}

@@ -9,11 +9,12 @@ use Rattle.hbc_function_record.specs.declared.Layout.TheVariants as lay
 use Rattle.hbc_function_record.specs.Row.{width}
 use Rattle.hbc_function_header.specs.declared.Ground.{Ground}
 use Rattle.hbc_function_header.specs.declared.Ground.TheVariants as ground
-use Rattle.hbc_function_header.specs.Header.{says_reading, function_at, opened, function_ground}
+use Rattle.hbc_io.specs.Answers.{answered}
+use Rattle.hbc_function_header.specs.Header.{function_at, opened, function_ground}
 use Rattle.hbc_function_header.specs.Meets.{function_meets}
 use Rattle.hbc_function.specs.Table.{row_by, roomed, Table, ReadFunctions}
-use Rattle.hbc_function.specs.Refresh.{says_refreshed, RefreshFunctions}
-use Rattle.hbc_function_write.specs.Write.{says_wrote, WriteFunctions}
+use Rattle.hbc_function.specs.Refresh.{RefreshFunctions}
+use Rattle.hbc_function_write.specs.Write.{WriteFunctions}
 use Rattle.hbc_c_code.specs.Code.{code_of, code_in, truth, always}
 use Rattle.hbc_c_code.specs.Told.{Told}
 
@@ -26,7 +27,7 @@ pub record ByLayout {W : Type 0} (n : ℕ) (Promised : Layout → ℕ → W → 
 -- ---- a table read: accepted, the answer is the count
 
 abbrev pub TableRead : List ℕ → Layout → ℕ → ℕ → Table → ℕ → Table → Type 0
-TableRead s layout start count before = Told (always count) says_reading (ReadFunctions s layout start count before)
+TableRead s layout start count before = Told (always count) answered (ReadFunctions s layout start count before)
 
 abbrev pub ToldFunctions : List ℕ → ℕ → ℕ → ℕ → Table → ℕ → Table → Type 0
 ToldFunctions s layout start count before = ByLayout layout (λ l. TableRead s l start count before) before
@@ -34,7 +35,7 @@ ToldFunctions s layout start count before = ByLayout layout (λ l. TableRead s l
 -- ---- a refresh: the answer is how many functions were read again
 
 abbrev pub TableRefreshed : List ℕ → Layout → ℕ → ℕ → ℕ → ℕ → Table → ℕ → Table → Type 0
-TableRefreshed s layout start count low high before = Told (λ n. n) says_refreshed (RefreshFunctions s layout start count low high before)
+TableRefreshed s layout start count low high before = Told (λ n. n) answered (RefreshFunctions s layout start count low high before)
 
 abbrev pub ToldRefresh : List ℕ → ℕ → ℕ → ℕ → ℕ → ℕ → Table → ℕ → Table → Type 0
 ToldRefresh s layout start count low high before = ByLayout layout (λ l. TableRefreshed s l start count low high before) before
@@ -42,7 +43,7 @@ ToldRefresh s layout start count low high before = ByLayout layout (λ l. TableR
 -- ---- a table written: the answer is the end of what was written
 
 abbrev pub TableWritten : List ℕ → Layout → ℕ → ℕ → ℕ → List ℕ → ℕ → List ℕ → Type 0
-TableWritten rows layout start count large before = Told (λ n. n) says_wrote (WriteFunctions rows layout start count large before)
+TableWritten rows layout start count large before = Told (λ n. n) answered (WriteFunctions rows layout start count large before)
 
 abbrev pub ToldWrite : List ℕ → ℕ → ℕ → ℕ → ℕ → List ℕ → ℕ → List ℕ → Type 0
 ToldWrite rows layout start count large before = ByLayout layout (λ l. TableWritten rows l start count large before) before
@@ -79,13 +80,12 @@ places header large = record { header = header; large = large }
 abbrev pub no_place : ℕ
 no_place = 2 ^ 64 - 1
 
-abbrev pub places_of : Ground → Places → Places
-places_of ground.None before = before
-places_of (ground.Inline at) before = places at no_place
-places_of (ground.Large at place) before = places at place
+abbrev pub places_of : Ground → Places
+places_of (ground.Inline at) = places at no_place
+places_of (ground.Large at place) = places at place
 
 abbrev pub places_in : Answer Ground → Places → Places
-places_in (gives g) before = places_of g before
+places_in (gives g) before = places_of g
 places_in (refuses r) before = before
 
 pub record GroundTold (a : Answer Ground) (before : Places) (r : ℕ) (after : Places) : Type 0 where

@@ -1,15 +1,12 @@
--- The two ways a span is told, the number alone of a LEB128 answer, and its mark.
-use mathlib.Core.Path.{◌≡◌, refl, ap, ◌∙◌}
-use mathlib.Core.List.{List}
+-- The two ways a span is told, and its mark.
+use mathlib.Core.Path.{◌≡◌, refl}
 use mathlib.Core.Bool.{Bool, true, false}
 use Prim.Native.Nat.{ℕ}
 use mir.Val.{bool_byte}
-use Rattle.hbc_io.specs.Outcome.{Outcome, got, refused, valued}
-use Rattle.hbc_io.proofs.Reading.{valued_on}
+use Rattle.hbc_io.specs.Outcome.{Outcome, got, refused}
 use Rattle.hbc_io.specs.declared.Cursor.{Cursor}
 use Rattle.hbc_io.specs.declared.Refusal.{Refusal}
 use Rattle.hbc_io.specs.declared.Span.{Span}
-use Rattle.hbc_io_leb.specs.Leb.{leb_bytes}
 use Rattle.hbc_c_code.specs.Code.{code_of, truth}
 use Rattle.hbc_c_code.proofs.Tolds.{moved_to, moved_not}
 use Rattle.hbc_c_io.specs.Io.{ReadsSpan, Marked}
@@ -20,11 +17,6 @@ span_got e = record { tells = moved_to e; starts = rw e; counts = rw e }
 pub span_refused : {o : Outcome Span} {start₀ len₀ : ℕ} {r : Refusal} {n : Cursor} {k : ℕ} → o ≡ refused r n → k ≡ code_of r
     → ReadsSpan o start₀ len₀ k n.at start₀ len₀
 span_refused e f = record { tells = moved_not e f; starts = rw e; counts = rw e }
-
--- the number alone of a LEB128 answer
-pub number_of : {B C : Type 0} (f : List ℕ → B) (g : B → C) (s : List ℕ) (c : Cursor) {x : Outcome B} → valued f (leb_bytes s c) ≡ x
-    → valued (λ (bs : List ℕ). g (f bs)) (leb_bytes s c) ≡ valued g x
-number_of f g s c e = valued_on f g (leb_bytes s c) ∙ ap (valued g) e
 
 -- a mark, as it is written
 pub mark_is : (b : Bool) → bool_byte b ≡ truth b

@@ -1,16 +1,15 @@
 -- docs/FORMAT.md, section 8.2: what the calls on handlers and trailing sections hand back through words that the caller lends.
-use Rattle.std.specs.Prelude.{ℕ, ◌≡◌, List, [], ◌∷◌, Bool, length}
+use Rattle.std.specs.Prelude.{Option, Some, None, Result, Ok, Err, ℕ, ◌≡◌, List, [], ◌∷◌, Bool, length}
 use Rattle.hbc_io.specs.Outcome.{limit}
+use Rattle.hbc_io.specs.Answers.{answered}
 use Rattle.hbc_io.specs.Answer.{Answer, gives, refuses, refused_at, told}
 use Rattle.hbc_io.specs.Lends.{below}
 use Rattle.hbc_rows.specs.Rows.{rows, put_row}
-use Rattle.hbc_parsing_handlers.specs.declared.Why.{Why}
-use Rattle.hbc_parsing_handlers.specs.declared.Why.TheVariants as w
+use Rattle.hbc_parsing_handlers.specs.declared.Table.{Table}
+use Rattle.hbc_parsing_handlers.specs.declared.Reason.{Reason}
 use Rattle.hbc_parsing_handlers.specs.Why.{reason_number, why_answer}
-use Rattle.hbc_parsing_handlers.specs.Handlers.{says_listed, ReadHandlers}
+use Rattle.hbc_parsing_handlers.specs.Handlers.{ReadHandlers}
 use Rattle.hbc_parsing_sections.specs.declared.Section.{Section}
-use Rattle.hbc_parsing_sections.specs.declared.Sources.{Sources}
-use Rattle.hbc_parsing_sections.specs.declared.Sources.TheVariants as src
 use Rattle.hbc_parsing_sections.specs.declared.Sections.{Sections}
 use Rattle.hbc_parsing_sections.specs.Sections.{sections_at}
 use Rattle.hbc_c_code.specs.Code.{code_in, always}
@@ -18,18 +17,18 @@ use Rattle.hbc_c_code.specs.Told.{ToldValue}
 
 -- handlers: accepted, the answer is 0 and the number of rows is in a number of its own
 abbrev pub ToldHandlers : List ℕ → List ℕ → ℕ → List ℕ → ℕ → ℕ → List ℕ → ℕ → Type 0
-ToldHandlers s functions count before = ToldValue says_listed (ReadHandlers s functions count before)
+ToldHandlers s functions count before = ToldValue answered (ReadHandlers s functions count before)
 
 -- ---- why a function has none: 0 where they are shown, and then their number is in a number of its own; else the reason's number
 
-abbrev pub why_number : Why → ℕ
-why_number (w.Shown t) = 0
-why_number (w.Hidden x) = reason_number x
+abbrev pub why_number : Result Table Reason → ℕ
+why_number (Ok t) = 0
+why_number (Err x) = reason_number x
 
 -- what the number of its own holds: what it held where there is a reason, and where it is refused
-abbrev pub handlers_in : Answer Why → ℕ → ℕ
-handlers_in (gives (w.Shown t)) before = t.count
-handlers_in (gives (w.Hidden x)) before = before
+abbrev pub handlers_in : Answer (Result Table Reason) → ℕ → ℕ
+handlers_in (gives (Ok t)) before = t.count
+handlers_in (gives (Err x)) before = before
 handlers_in (refuses r) before = before
 
 pub record ToldWhy (s functions : List ℕ) (id before r after : ℕ) : Type 0 where
@@ -44,9 +43,9 @@ section_width = 4
 abbrev pub section_words : Section → List ℕ
 section_words p = p.start ∷ p.size ∷ p.entries ∷ 0 ∷ []
 
-abbrev pub sources_words : Sources → List ℕ
-sources_words (src.Given p) = section_words p
-sources_words src.Absent = 0 ∷ 0 ∷ 0 ∷ 1 ∷ []
+abbrev pub sources_words : Option Section → List ℕ
+sources_words (Some p) = section_words p
+sources_words None = 0 ∷ 0 ∷ 0 ∷ 1 ∷ []
 
 abbrev put : List ℕ → ℕ → List ℕ → List ℕ
 put = put_row section_width

@@ -1,16 +1,14 @@
 -- What only private contracts cite: no promise rests on it. What lies in a file of at most 2^30 bytes has words of 32 bits.
-use Rattle.std.specs.Prelude.{◌<◌, ◌^◌}
+use Rattle.std.specs.Prelude.{Option, Some, None, ◌<◌, ◌^◌}
 use Rattle.hbc_parsing_sections.specs.declared.Section.{Section}
-use Rattle.hbc_parsing_sections.specs.declared.Sources.{Sources}
-use Rattle.hbc_parsing_sections.specs.declared.Sources.TheVariants as src
 use Rattle.hbc_parsing_sections.specs.declared.Sections.{Sections}
 
 abbrev pub InWords : Section → Type 0
 InWords p = (p.start < 2 ^ 32) × (p.size < 2 ^ 32)
 
-abbrev pub SourcesInWords : Sources → Type 0
-SourcesInWords (src.Given p) = InWords p
-SourcesInWords src.Absent = Unit
+abbrev pub SourcesInWords : Option Section → Type 0
+SourcesInWords (Some p) = InWords p
+SourcesInWords None = Unit
 
 pub record AllInWords (v : Sections) : Type 0 where
   pub regexps : InWords v.regexps

@@ -9,8 +9,8 @@ ghost use Rattle.hbc_c_parsing.specs.Private.{InWords, SourcesInWords, AllInWord
 
 use hbc_c_code::code;
 use hbc_io::{LIMIT, refuse};
-use hbc_parsing_handlers::{Explained, Listed, Reason, Why};
-use hbc_parsing_sections::{ReadSections, Section, Sections, Sources};
+use hbc_parsing_handlers::Reason;
+use hbc_parsing_sections::{Section, Sections};
 use hbc_rows::put_row;
 
 // Accepted, the answer is 0 and the number of rows is in `total`: functions may share handlers, so that it can be above 2^32 - 1.
@@ -25,15 +25,15 @@ pub fn read_handlers(
         result rows.new total.new }
 {
     match hbc_parsing_handlers::read_handlers(file, functions, count, rows) {
-        Listed::Rows(n) => {
+        Ok(n) => {
             *total = n;
             0
         }
-        Listed::Refused(r) => code(r),
+        Err(r) => code(r),
     }
 }
 
-// A reason by its place in their order.
+// A reason by its place in their order: the numbers are C's, and stand at the boundary alone.
 fn reason_number(x: Reason) -> u64
     ensures { result ≡ reason_number x }
 {
@@ -53,14 +53,12 @@ pub fn why_no_handlers(file: &[u8], functions: &[u32], id: u32, handlers: &mut u
     ensures { ToldWhy file.now functions.now id handlers.old result handlers.new }
 {
     match hbc_parsing_handlers::why_no_handlers(file, functions, id) {
-        Explained::By(v) => match v {
-            Why::Shown(t) => {
-                *handlers = t.count;
-                0
-            }
-            Why::Hidden(x) => reason_number(x),
-        },
-        Explained::Refused(r) => code(r),
+        Ok(Ok(t)) => {
+            *handlers = t.count;
+            0
+        }
+        Ok(Err(x)) => reason_number(x),
+        Err(r) => code(r),
     }
 }
 
@@ -73,13 +71,13 @@ fn put_section(rows: &mut [u32], k: usize, s: Section)
     put_row(rows, k, &row);
 }
 
-fn put_sources(rows: &mut [u32], k: usize, s: Sources)
+fn put_sources(rows: &mut [u32], k: usize, s: Option<Section>)
     requires { SourcesInWords s }
     ensures { rows.new ≡ put_row section_width rows.old k (sources_words s) }
 {
     match s {
-        Sources::Given(p) => put_section(rows, k, p),
-        Sources::Absent => {
+        Some(p) => put_section(rows, k, p),
+        None => {
             let row: [u32; 4] = [0, 0, 0, 1];
             put_row(rows, k, &row);
         }
@@ -90,11 +88,10 @@ fn put_sections(v: Sections, rows: &mut [u32])
     requires { AllInWords v }
     ensures { rows.new ≡ sections_into v rows.old }
 {
-    let sources = v.sources;
     put_section(rows, 0, v.regexps);
     put_section(rows, 1, v.storage);
     put_section(rows, 2, v.cjs);
-    put_sources(rows, 3, sources);
+    put_sources(rows, 3, v.sources);
     put_section(rows, 4, v.bytecode);
 }
 
@@ -112,21 +109,21 @@ pub fn trailing_sections(
     ensures { ToldSections file.now start regexps storage cjs given sources rows.old result rows.new }
 {
     if LIMIT < file.len() {
-        return code(refuse(1, 0));
+        return code(refuse(hbc_io::Reason::TooLong as u32, 0));
     }
     if file.len() < start {
-        return code(refuse(2, 0));
+        return code(refuse(hbc_io::Reason::PastEnd as u32, 0));
     }
     if rows.len() / 4 < 5 {
-        return code(refuse(4, 0));
+        return code(refuse(hbc_io::Reason::TooFewRows as u32, 0));
     }
     match hbc_parsing_sections::trailing_sections(
         file, start, regexps, storage, cjs, given, sources,
     ) {
-        ReadSections::Refused(r) => code(r),
-        ReadSections::Got(v) => {
+        Ok(v) => {
             put_sections(v, rows);
             5
         }
+        Err(r) => code(r),
     }
 }

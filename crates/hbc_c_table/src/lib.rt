@@ -3,38 +3,22 @@
 
 ghost use Rattle.hbc_c_table.specs.Table.{ToldTable, ToldStrings, ToldPart};
 
-use hbc_c_code::code;
-use hbc_io::{Cursor, Moved};
-use hbc_table_strings::{Decoded, Mode};
+use hbc_c_code::{code, moved};
+use hbc_io::Cursor;
+use hbc_table_strings::Mode;
 
 pub fn read_u32_table(s: &[u8], at: &mut usize, count: u32, table: &mut [u32]) -> u64
     ensures { ToldTable 1 s.now at.old count table.old result at.new table.new }
 {
-    match hbc_table::read_u32_table(s, Cursor { at: *at }, count, table) {
-        Moved::To(next) => {
-            *at = next.at;
-            0
-        }
-        Moved::Refused(r, stays) => {
-            *at = stays.at;
-            code(r)
-        }
-    }
+    let answer = hbc_table::read_u32_table(s, Cursor { at: *at }, count, table);
+    moved(answer, at)
 }
 
 pub fn read_pair_table(s: &[u8], at: &mut usize, count: u32, table: &mut [u32]) -> u64
     ensures { ToldTable 2 s.now at.old count table.old result at.new table.new }
 {
-    match hbc_table::read_pair_table(s, Cursor { at: *at }, count, table) {
-        Moved::To(next) => {
-            *at = next.at;
-            0
-        }
-        Moved::Refused(r, stays) => {
-            *at = stays.at;
-            code(r)
-        }
-    }
+    let answer = hbc_table::read_pair_table(s, Cursor { at: *at }, count, table);
+    moved(answer, at)
 }
 
 // Accepted, the answer is the number of rows written. Each mode has an export of its own.
@@ -51,8 +35,8 @@ pub fn decode_strings(
         result rows.new }
 {
     match hbc_table_strings::decode_strings(mode, count, kinds, small, overflow, storage, rows) {
-        Decoded::Rows(n) => n as u64,
-        Decoded::Refused(r) => code(r),
+        Ok(n) => n as u64,
+        Err(r) => code(r),
     }
 }
 

@@ -4,15 +4,14 @@
 ghost use Rattle.hbc_c_text.specs.Text.{ToldText, ToldStringsJson};
 
 use hbc_c_code::code;
-use hbc_text_forms::Text;
 
 // Accepted, the answer is the text's length.
 pub fn string_text(storage: &[u8], rows: &[u32], index: usize, out: &mut [u8]) -> u64
     ensures { ToldText storage.now rows.now index out.old result out.new }
 {
     match hbc_text::string_text(storage, rows, index, out) {
-        Text::Length(n) => n as u64,
-        Text::Refused(r) => code(r),
+        Ok(n) => n as u64,
+        Err(r) => code(r),
     }
 }
 
@@ -28,10 +27,10 @@ pub fn strings_json(
         result out.new length.new }
 {
     match hbc_json::strings_json(storage, rows, count as usize, out) {
-        Text::Length(n) => {
+        Ok(n) => {
             *length = n;
             0
         }
-        Text::Refused(r) => code(r),
+        Err(r) => code(r),
     }
 }

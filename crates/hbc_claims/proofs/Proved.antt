@@ -11,38 +11,30 @@ use prog.Memory.{Memory}
 use prog.Routine.{Routine}
 use types.Logic.{Logic}
 use contract.Monad.{Fun}
+use Rattle.std.specs.Prelude.{Result as Res, Ok, Err}
 use Rattle.hbc_io.specs.Answer.{gives, told}
+use Rattle.hbc_io.specs.Answers.{answered}
 use Rattle.hbc_io.specs.declared.Cursor.{Cursor}
 use Rattle.hbc_io.specs.declared.Refusal.{Refusal}
-use Rattle.hbc_io.specs.declared.Moved.TheVariants as moved
 use Rattle.hbc_rows.specs.Rows.{entry_at}
 use Rattle.hbc_function_record.specs.declared.Layout.{Layout}
 use Rattle.hbc_function_record.specs.declared.Found.{Found}
 use Rattle.hbc_function_record.specs.Row.{ROW_INFO_OFFSET, ROW_FLAGS, row_words}
-use Rattle.hbc_function_header.specs.Header.{says_reading, header_at, function_at}
-use Rattle.hbc_function_header.specs.declared.Reading.{Reading}
-use Rattle.hbc_function_header.specs.declared.Reading.TheVariants as reading
-use Rattle.hbc_function.specs.declared.Refreshed.{Refreshed}
-use Rattle.hbc_function.specs.declared.Refreshed.TheVariants as refreshed
+use Rattle.hbc_function_header.specs.Header.{header_at, function_at}
 use Rattle.hbc_function.specs.Table.{Table, ReadFunctions}
 use Rattle.hbc_function.specs.Refresh.{RefreshFunctions}
 use Rattle.hbc_table.specs.Table.{ReadTable}
 use Rattle.hbc_table_strings.specs.declared.Mode.{Mode}
-use Rattle.hbc_table_strings.specs.declared.Decoded.TheVariants as decoded
 use Rattle.hbc_table_strings.specs.Strings.{DecodeStrings}
-use Rattle.hbc_buffer.specs.declared.Series.TheVariants as series
 use Rattle.hbc_buffer.specs.Series.{ReadSeries}
 use Rattle.hbc_buffer_object.specs.declared.Object.{Object}
 use Rattle.hbc_buffer_object.specs.Object.{named as choice, ReadObject}
-use Rattle.hbc_parsing_handlers.specs.declared.Listed.TheVariants as listed
 use Rattle.hbc_parsing_handlers.specs.Handlers.{ReadHandlers}
 use Rattle.hbc_parsing_sections.specs.declared.Sections.{Sections}
-use Rattle.hbc_parsing_sections.specs.declared.ReadSections.TheVariants as sections
-use Rattle.hbc_parsing_sections.specs.Sections.{sections_at, says_sections}
+use Rattle.hbc_parsing_sections.specs.Sections.{sections_at}
 use Rattle.hbc_parsing_sections.proofs.Laid.{laid}
 use Rattle.hbc_debug.specs.Debug.{Tables, contents_at, string_count, ReadDebug}
 use Rattle.hbc_debug.specs.declared.Counts.{Counts}
-use Rattle.hbc_debug.specs.declared.Debugged.TheVariants as debugged
 use Rattle.hbc_claims_io.proofs.Leb128 as leb
 use Rattle.hbc_claims_io.proofs.Left as r_io
 use Rattle.hbc_claims_io.proofs.Unique as u_io
@@ -137,7 +129,7 @@ reader 𝓛 mem run = record {
   part = u_reader.part_clause 𝓛 mem run;
 }
 
-as_fresh : {a b : List ℕ} {layout : Layout} {start count low high : ℕ} {t t₀ t₁ t₂ t₃ : Table} {r : Reading} {q : Refreshed} → Edited a b layout start count low high t t₀ t₁
+as_fresh : {a b : List ℕ} {layout : Layout} {start count low high : ℕ} {t t₀ t₁ t₂ t₃ : Table} {r : Res (Unit {0}) Refusal} {q : Res ℕ Refusal} → Edited a b layout start count low high t t₀ t₁
     → ReadFunctions b layout start count t r t₂ → RefreshFunctions b layout start count low high t₁ q t₃ → AsFresh r q t₁ t₂ t₃
 as_fresh {layout = layout} {start = start} {count = count} v f g =
     let d = fresh.refreshed_as_fresh v.same layout start count v.read v.rows v.totals v.valid.0 v.valid.1 v.bytes v.words f g in
@@ -147,7 +139,7 @@ as_fresh {layout = layout} {start = start} {count = count} v f g =
       refused = λ x e. (d.when_refused x e).1;
     }
 
-refreshes : {s : List ℕ} {layout : Layout} {start count low high k : ℕ} {t t' : Table} → RefreshFunctions s layout start count low high t (refreshed.Done k) t'
+refreshes : {s : List ℕ} {layout : Layout} {start count low high k : ℕ} {t t' : Table} → RefreshFunctions s layout start count low high t (Ok k) t'
     → Refreshes s layout start count low high t k t'
 refreshes v = let w = rewritten v in record { rows = w.met; others = w.unmet; behind = w.behind; counts = w.counts }
 
@@ -191,7 +183,7 @@ as_one s layout start count low₁ high₁ low₂ high₂ t a ab b ba c w v u o 
       refused = λ x e. (panes.told s layout start count (min low₁ low₂) (max high₁ high₂) t c o e).leaves;
     }
 
-both_fresh : (o s : List ℕ) (layout : Layout) (start count low₁ high₁ low₂ high₂ : ℕ) (t₀ t₁ t t₂ : Table) (a ab b ba : Result) (r : Reading) → Sound s count t
+both_fresh : (o s : List ℕ) (layout : Layout) (start count low₁ high₁ low₂ high₂ : ℕ) (t₀ t₁ t t₂ : Table) (a ab b ba : Result) (r : Res (Unit {0}) Refusal) → Sound s count t
     → EditedTwice o s layout start count low₁ high₁ low₂ high₂ t₀ t₁ t → Panes s layout start count low₁ high₁ low₂ high₂ t a ab b ba
     → ReadFunctions s layout start count t₀ r t₂ → BothFresh r t₂ a ab b ba
 both_fresh o s layout start count low₁ high₁ low₂ high₂ t₀ t₁ t t₂ a ab b ba r w u v g =
@@ -205,8 +197,8 @@ both_fresh o s layout start count low₁ high₁ low₂ high₂ t₀ t₁ t t₂
       table = λ h. (last h, sym e.same ∙ last h);
     }
 
-mended : (o s s' : List ℕ) (layout : Layout) (start count low₁ high₁ low₂ high₂ k : ℕ) (t₀ t₁ t t₂ t₃ u : Table) (r : Reading) (q : Refreshed) → Sound s count t
-    → EditedTwice o s layout start count low₁ high₁ low₂ high₂ t₀ t₁ t → RefreshFunctions s layout start count low₂ high₂ t (refreshed.Done k) u → Same s s' low₁ high₁
+mended : (o s s' : List ℕ) (layout : Layout) (start count low₁ high₁ low₂ high₂ k : ℕ) (t₀ t₁ t t₂ t₃ u : Table) (r : Res (Unit {0}) Refusal) (q : Res ℕ Refusal) → Sound s count t
+    → EditedTwice o s layout start count low₁ high₁ low₂ high₂ t₀ t₁ t → RefreshFunctions s layout start count low₂ high₂ t (Ok k) u → Same s s' low₁ high₁
     → ((i : ℕ) → get_or s' i 0 < 256) → ReadFunctions s' layout start count t₀ r t₂ → RefreshFunctions s' layout start count low₁ high₁ u q t₃ → AsFresh r q u t₂ t₃
 mended o s s' layout start count low₁ high₁ low₂ high₂ k t₀ t₁ t t₂ t₃ u r q w v p m y f g =
     let ends : high₁ ≤ length s' = rw (← m.long) v.first.1 in
@@ -214,7 +206,7 @@ mended o s s' layout start count low₁ high₁ low₂ high₂ k t₀ t₁ t t�
       answers = together.mended_answers v.same m layout start count k v.read v.rows p w.bytes y (fit s count t w) v.first.0 ends f g;
       accepted = together.mended_table v.same m layout start count k v.read v.rows p w.bytes y (fit s count t w) v.first.0 ends f g;
       refused = λ x e. panes.left_when s' layout start count low₁ high₁ q u t₃ x g
-          (sym (together.mended_answers v.same m layout start count k v.read v.rows p w.bytes y (fit s count t w) v.first.0 ends f g) ∙ ap says_reading e);
+          (sym (together.mended_answers v.same m layout start count k v.read v.rows p w.bytes y (fit s count t w) v.first.0 ends f g) ∙ ap answered e);
     }
 
 met : (s : List ℕ) (layout : Layout) (start low high i : ℕ) → Meets s layout start low high i (header_at layout start i)
@@ -226,7 +218,7 @@ met s layout start low high i = record {
   shared = λ a n j v. meeting.byte_shares v;
 }
 
-reads : {s : List ℕ} {layout : Layout} {start count : ℕ} {t t' : Table} → ReadFunctions s layout start count t reading.Read t' → Reads s layout start count t t'
+reads : {s : List ℕ} {layout : Layout} {start count : ℕ} {t t' : Table} → ReadFunctions s layout start count t (Ok tt) t' → Reads s layout start count t t'
 reads v = ((filled v).rows, (filled v).behind)
 
 cursor_left : (s : List ℕ) (c : Cursor) (k : Refusal) (n : Cursor) → CursorLeft s c k n
@@ -256,7 +248,7 @@ tables_left k = record {
   function_row = λ s layout start i t t' v. v.leaves;
   write_functions = λ rows layout start count large b b' v. v.leaves;
   read_series = λ s offset count ks ps ks' ps'. r_buffer.series_left s offset count;
-  object = λ keys values b offset count ks ps o ks' ps'. r_buffer.object_left keys values b offset count;
+  object = λ keys values b offset count ks ps ks' ps'. r_buffer.object_left keys values b offset count;
   handlers = λ s functions count t t' v. v.leaves;
   read_debug = λ file offset t t' v. v.leaves;
   write_strings = λ s base count t t'. (r_debug.left).strings s base count t t' k;
@@ -317,7 +309,7 @@ whole s k =
     let all = steps.all_read s k in
     record { tags = tags.enough k s; strings = all.strings; scopes = all.scopes; string_numbers_lem = all.string_numbers_lem; scope_numbers_lem = all.scope_numbers_lem }
 
-table_read : {width : ℕ} {s : List ℕ} {c : Cursor} {count : ℕ} {t : List ℕ} {n : Cursor} {t' : List ℕ} → ReadTable width s c count t (moved.To n) t'
+table_read : {width : ℕ} {s : List ℕ} {c : Cursor} {count : ℕ} {t : List ℕ} {n : Cursor} {t' : List ℕ} → ReadTable width s c count t (Ok n) t'
     → TableRead width s c count t n t'
 table_read {width} {s} {c} {count} {t} {n} {t'} v = record {
   cursor = r_table.read_moves width s c count t t' n v;
@@ -325,7 +317,7 @@ table_read {width} {s} {c} {count} {t} {n} {t'} v = record {
   behind = r_table.read_behind width s c count t t' n v;
 }
 
-strings_read : (mode : Mode) (count : ℕ) (kinds small overflow storage t : List ℕ) (n : ℕ) (t' : List ℕ) → DecodeStrings mode count kinds small overflow storage t (decoded.Rows n) t'
+strings_read : (mode : Mode) (count : ℕ) (kinds small overflow storage t : List ℕ) (n : ℕ) (t' : List ℕ) → DecodeStrings mode count kinds small overflow storage t (Ok n) t'
     → StringsRead mode count kinds small overflow storage t n t'
 strings_read mode count kinds small overflow storage t n t' v =
     let e = r_strings.decoded_count mode count kinds small overflow storage t t' n v in
@@ -351,7 +343,7 @@ modes count kinds small overflow storage = record {
 texts : Texts
 texts = record { codes = utf8.all_codes; utf8 = utf8.of_utf8; utf16 = utf16.of_utf16; same = utf16.of_scalars; row = r_row.of_row }
 
-series_read : (s : List ℕ) (offset count : ℕ) (ks ps : List ℕ) (n : ℕ) (ks' ps' : List ℕ) → ReadSeries s offset count ks ps (series.Used n) ks' ps'
+series_read : (s : List ℕ) (offset count : ℕ) (ks ps : List ℕ) (n : ℕ) (ks' ps' : List ℕ) → ReadSeries s offset count ks ps (Ok n) ks' ps'
     → SeriesRead s offset count ks ps n ks' ps'
 series_read s offset count ks ps n ks' ps' v = record {
   ends = values.series_ends s offset count ks ps n ks' ps' v;
@@ -362,15 +354,15 @@ series_read s offset count ks ps n ks' ps' v = record {
 }
 
 object_read : (keys values : List ℕ) (b : Bool) (offset count : ℕ) (ks ps : List ℕ) (o : Object) (ks' ps' : List ℕ)
-    → ReadObject keys values b offset count ks ps o ks' ps' → o.refusal.number ≡ 0 → ObjectRead keys values b offset count ks ps o ks' ps'
-object_read keys values b offset count ks ps o ks' ps' v z = record {
-  series = series_read (choice b keys values) offset count ks ps o.len ks' ps' (parts.object_series keys values b offset count ks ps o ks' ps' v z);
-  names = parts.object_names keys values b offset count ks ps o ks' ps' v z;
-  some = parts.object_some keys values b offset count ks ps o ks' ps' v z;
-  none = parts.object_none keys values b offset count ks ps o ks' ps' v z;
+    → ReadObject keys values b offset count ks ps (Ok o) ks' ps' → ObjectRead keys values b offset count ks ps o ks' ps'
+object_read keys values b offset count ks ps o ks' ps' v = record {
+  series = series_read (choice b keys values) offset count ks ps o.len ks' ps' (parts.object_series keys values b offset count ks ps o ks' ps' v);
+  names = parts.object_names keys values b offset count ks ps o ks' ps' v;
+  some = parts.object_some keys values b offset count ks ps o ks' ps' v;
+  none = parts.object_none keys values b offset count ks ps o ks' ps' v;
 }
 
-handlers_read : (s functions : List ℕ) (count : ℕ) (t : List ℕ) (n : ℕ) (t' : List ℕ) → ReadHandlers s functions count t (listed.Rows n) t'
+handlers_read : (s functions : List ℕ) (count : ℕ) (t : List ℕ) (n : ℕ) (t' : List ℕ) → ReadHandlers s functions count t (Ok n) t'
     → HandlersRead s functions count t n t'
 handlers_read s fs count t n t' v = record {
   counts = rows_of_lem.listed_count s fs count t n t' v;
@@ -382,7 +374,7 @@ handlers_read s fs count t n t' v = record {
 }
 
 -- two words of a row, of what is found there
-own_header : (s : List ℕ) (layout : Layout) (start count : ℕ) (t t' : Table) → ReadFunctions s layout start count t reading.Read t'
+own_header : (s : List ℕ) (layout : Layout) (start count : ℕ) (t t' : Table) → ReadFunctions s layout start count t (Ok tt) t'
     → (id : ℕ) → id < count → (f : Found) × (function_at s layout start id ≡ gives f) × OfRecord f.own t'.rows id
 unfolding entry_at
 own_header s layout start count t t' v id h =
@@ -393,13 +385,13 @@ own_header s layout start count t t' v id h =
     (info.read_as, info.found, rows_of_lem.of_record info.read_as info.is (flags.is ∙ ap (λ (r : Found). get_or (row_words r) ROW_FLAGS 0) same))
 
 sections_read : (s : List ℕ) (start regexps storage cjs : ℕ) (given : Bool) (sources : ℕ) (v : Sections)
-    → says_sections (sections.Got v) ≡ told (sections_at start regexps storage cjs given sources s) → SectionsRead s start regexps storage cjs given sources v
+    → answered (Ok v) ≡ told (sections_at start regexps storage cjs given sources s) → SectionsRead s start regexps storage cjs given sources v
 sections_read s start regexps storage cjs given sources v e =
     let g = sizes.was_got (sections_at start regexps storage cjs given sources s) v e in
     let f = pairs.sections_fit start regexps storage cjs given sources s v g.0 g.1 in
     (laid start regexps storage cjs given sources s v g.0 g.1, sizes.counted start regexps storage cjs given sources s v g.0 g.1, f.0, f.1, f.2)
 
-debug_read : (file : List ℕ) (offset : ℕ) (t : Tables) (k : Counts) (e : Bool) (t' : Tables) → ReadDebug file offset t (debugged.Read k e) t'
+debug_read : (file : List ℕ) (offset : ℕ) (t : Tables) (k : Counts) (e : Bool) (t' : Tables) → ReadDebug file offset t (Ok (record { value = k; exact = e })) t'
     → DebugRead (contents_at file offset) t k e t'
 debug_read file offset t k e t' v = record {
   counts = debug_rows.counts_are file offset t k e t' v;

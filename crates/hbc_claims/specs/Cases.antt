@@ -1,7 +1,7 @@
 -- docs/FORMAT.md, section 10.1: the worked cases that are proved, P1 to P10, W1 to W5, of which Wn is Pn the other way round, H1 and H2, on which
 -- the modes of decoding strings differ, T1 to T8, texts, Y1 to Y8, why a function has no handlers, S1 to S7, the totals beside a table, and R1 to R9, two
 -- refreshes in either order, in one list under one statement. A case is any statement over the promises' definitions.
-use Rattle.std.specs.Prelude.{ℕ, zero, suc, ◌+◌, ◌-◌, ◌*◌, ◌^◌, ◌≤◌, ◌≡◌, List, [], ◌∷◌, ◌++◌, pos, negsuc, length, replicate, take}
+use Rattle.std.specs.Prelude.{ℕ, zero, suc, ◌+◌, ◌-◌, ◌*◌, ◌^◌, ◌≤◌, ◌≡◌, List, [], ◌∷◌, ◌++◌, pos, negsuc, length, replicate, take, Result, Ok, Err}
 use Rattle.hbc_claims_law.specs.Terms.{packed_at}
 use Rattle.hbc_claims_function.specs.Packed.{legacy, modern}
 use Rattle.hbc_io.specs.Outcome.{got, valued, cursor_at}
@@ -30,9 +30,9 @@ use Rattle.hbc_text_forms.specs.Utf16.{utf16_text}
 use Rattle.hbc_text_forms.specs.Text.{over, put_answer}
 use Rattle.hbc_text.specs.StringText.{string_text}
 use Rattle.hbc_buffer.specs.Series.{series_answer, series_tables}
+use Rattle.hbc_parsing_handlers.specs.declared.Reason.{Reason}
 use Rattle.hbc_parsing_handlers.specs.declared.Reason.TheVariants as reason
-use Rattle.hbc_parsing_handlers.specs.declared.Why.{Why}
-use Rattle.hbc_parsing_handlers.specs.declared.Why.TheVariants.{Shown, Hidden}
+use Rattle.hbc_parsing_handlers.specs.declared.Table.{Table as Triples}
 use Rattle.hbc_parsing_handlers.specs.Why.{table, why_answer}
 use Rattle.hbc_c_parsing.specs.Parsing.{why_number}
 
@@ -110,7 +110,7 @@ PutsIn s bytes answer after =
     × (written (put_answer (utf8_text s) s bytes) (over (utf8_text s) (replicate bytes 9)) (replicate bytes 9) ≡ after)
 
 -- a function with this info_offset and these flags, in a row whose other words are 9: why it has no handlers, or those that it has, and the export's number
-abbrev pub IsWhy : List ℕ → ℕ → ℕ → Why → ℕ → Type 0
+abbrev pub IsWhy : List ℕ → ℕ → ℕ → Result Triples Reason → ℕ → Type 0
 IsWhy s info flags v number = (why_answer s (replicate 6 9 ++ info ∷ 9 ∷ flags ∷ replicate (width - 9) 9) 0 ≡ gives v) × (why_number v ≡ number)
 
 -- 48 zeros, a count in two bytes, and so many zeros more
@@ -305,29 +305,29 @@ cases =
     ∷ PutsIn (0x61 ∷ 0xFF ∷ []) 5 (gives 4) (0x61 ∷ replacement ++ 9 ∷ [])
     ∷ PutsIn (0x61 ∷ 0xFF ∷ []) 3 (refused_at 4 0) (9 ∷ 9 ∷ 9 ∷ [])
     -- Y1: every bit but bit 3 is set, and info_offset is 0 too; Y2: the bit is set; 0 is at the end of no bytes, too
-    ∷ IsWhy (replicate 64 0) 0 0xFFFFFFF7 (Hidden reason.FlagClear) 1
-    ∷ IsWhy (replicate 64 0) 0 8 (Hidden reason.InfoZero) 2
-    ∷ IsWhy [] 0 8 (Hidden reason.InfoZero) 2
+    ∷ IsWhy (replicate 64 0) 0 0xFFFFFFF7 (Err reason.FlagClear) 1
+    ∷ IsWhy (replicate 64 0) 0 8 (Err reason.InfoZero) 2
+    ∷ IsWhy [] 0 8 (Err reason.InfoZero) 2
     -- Y3: info_offset is the file's length; or behind it, where there is no room either
-    ∷ IsWhy (replicate 64 0) 64 8 (Hidden reason.InfoPast) 3
-    ∷ IsWhy [] 1 8 (Hidden reason.InfoPast) 3
+    ∷ IsWhy (replicate 64 0) 64 8 (Err reason.InfoPast) 3
+    ∷ IsWhy [] 1 8 (Err reason.InfoPast) 3
     -- Y4: its last byte, and the first byte from which 64 is the next multiple of 4; and with one byte less in the file no room at 60 either
-    ∷ IsWhy (replicate 64 0) 63 8 (Hidden reason.NoRoom) 4
-    ∷ IsWhy (replicate 64 0) 61 8 (Hidden reason.NoRoom) 4
-    ∷ IsWhy (replicate 63 0) 60 8 (Hidden reason.NoRoom) 4
+    ∷ IsWhy (replicate 64 0) 63 8 (Err reason.NoRoom) 4
+    ∷ IsWhy (replicate 64 0) 61 8 (Err reason.NoRoom) 4
+    ∷ IsWhy (replicate 63 0) 60 8 (Err reason.NoRoom) 4
     -- Y5: the last place with room for a count, which is 0
-    ∷ IsWhy (replicate 64 0) 60 8 (Hidden reason.CountZero) 5
-    ∷ IsWhy (replicate 64 0) 57 8 (Hidden reason.CountZero) 5
+    ∷ IsWhy (replicate 64 0) 60 8 (Err reason.CountZero) 5
+    ∷ IsWhy (replicate 64 0) 57 8 (Err reason.CountZero) 5
     -- Y6: 1001 is too many, cut or not; Y7: 1000 is not
-    ∷ IsWhy (counting 0xE9 3 14) 45 8 (Hidden reason.CountHigh) 6
-    ∷ IsWhy (counting 0xE9 3 12014) 45 8 (Hidden reason.CountHigh) 6
-    ∷ IsWhy (counting 0xE8 3 14) 45 8 (Hidden reason.Cut) 7
-    ∷ IsWhy (counting 0xE8 3 12001) 45 8 (Hidden reason.Cut) 7
-    ∷ IsWhy (counting 0xE8 3 12002) 45 8 (Shown (table 1000 52)) 0
+    ∷ IsWhy (counting 0xE9 3 14) 45 8 (Err reason.CountHigh) 6
+    ∷ IsWhy (counting 0xE9 3 12014) 45 8 (Err reason.CountHigh) 6
+    ∷ IsWhy (counting 0xE8 3 14) 45 8 (Err reason.Cut) 7
+    ∷ IsWhy (counting 0xE8 3 12001) 45 8 (Err reason.Cut) 7
+    ∷ IsWhy (counting 0xE8 3 12002) 45 8 (Ok (table 1000 52)) 0
     -- Y8: two triples, in files of 64, of 75 and of 76 bytes; a second function has no row, though all words of one but the last are lent
-    ∷ IsWhy (counting 2 0 14) 45 8 (Hidden reason.Cut) 7
-    ∷ IsWhy (counting 2 0 25) 45 8 (Hidden reason.Cut) 7
-    ∷ IsWhy (counting 2 0 26) 45 8 (Shown (table 2 52)) 0
+    ∷ IsWhy (counting 2 0 14) 45 8 (Err reason.Cut) 7
+    ∷ IsWhy (counting 2 0 25) 45 8 (Err reason.Cut) 7
+    ∷ IsWhy (counting 2 0 26) 45 8 (Ok (table 2 52)) 0
     ∷ (why_answer (counting 2 0 26) (replicate (2 * width - 1) 8) 1 ≡ refused_at 11 0)
     -- S1: one of two functions is read from a large header; without the last byte the read is refused, and the totals are as they were
     ∷ Sums Legacy16 legacy_two 2 (gives tt) 1 30

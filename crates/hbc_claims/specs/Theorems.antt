@@ -3,7 +3,7 @@
 -- calls' contracts cite (docs/PROMISES.md), the terms are those of hbc_claims_law/specs/Terms. n is a cursor as a call leaves it, t' a table. A
 -- `Table` of functions has the words of its rows, and beside them two totals.
 use Rattle.std.specs.Prelude.{ℕ, suc, ◌+◌, ◌*◌, ◌%◌, ◌^◌, ◌≤◌, ◌<◌, min, max, ◌≡◌, List, [], ◌∷◌, ◌++◌}
-use Rattle.std.specs.Prelude.{Bool, true, false, cond, length, get_or, take, drop, Float, eqb}
+use Rattle.std.specs.Prelude.{Bool, true, false, cond, length, get_or, take, drop, Float, eqb, Result as Res, Ok, Err}
 use seplogic.Ra.Ura.{Ura}
 use base.Logic.{SProp}
 use prog.Memory.{Memory}
@@ -19,13 +19,10 @@ use Rattle.hbc_io.specs.Answer.{gives, asked, told}
 use Rattle.hbc_io.specs.Plain.{plain_at, bytes_at, seek_to, align_to}
 use Rattle.hbc_io.specs.declared.Cursor.{Cursor}
 use Rattle.hbc_io.specs.declared.Refusal.{Refusal}
-use Rattle.hbc_io.specs.declared.Moved.{Moved}
-use Rattle.hbc_io.specs.declared.Moved.TheVariants as moved
-use Rattle.hbc_io.specs.declared.ReadU32.{ReadU32}
-use Rattle.hbc_io.specs.declared.ReadSpan.{ReadSpan}
+use Rattle.hbc_io.specs.Answers.{answered}
 use Rattle.hbc_io.specs.declared.Span.{Span}
 use Rattle.hbc_io_leb.specs.declared.Sleb.{Sleb}
-use Rattle.hbc_io_leb.specs.declared.ReadUleb.{ReadUleb}
+use Rattle.hbc_io_leb.specs.declared.Uleb.{Uleb}
 use Rattle.hbc_io_leb.specs.Leb.{leb_bytes, dwarf_unsigned, dwarf_signed, unsigned_of, signed_of}
 use Rattle.hbc_io_leb.specs.Signed.{sleb_at, low32}
 use Rattle.hbc_io_strings.specs.Strings.{zero_ended, prefixed, marked_at}
@@ -47,51 +44,35 @@ use Rattle.hbc_function_record.specs.declared.Found.{Found}
 use Rattle.hbc_function_record.specs.BitLayout.{fields_in}
 use Rattle.hbc_function_record.specs.Record.{size_of, large_of, legacy_place, modern_place}
 use Rattle.hbc_function_record.specs.Row.{width, row_words, found_at}
-use Rattle.hbc_function_header.specs.declared.Function.TheVariants as function
-use Rattle.hbc_function_header.specs.declared.Reading.{Reading}
-use Rattle.hbc_function_header.specs.declared.Reading.TheVariants as reading
-use Rattle.hbc_function_header.specs.Header.{says_function, says_reading, header_at, large_found, record_at, function_at, read_function, FunctionRow}
+use Rattle.hbc_function_header.specs.Header.{header_at, large_found, record_at, function_at, read_function, FunctionRow}
 use Rattle.hbc_function_header.specs.Meets.{overlap, meets}
-use Rattle.hbc_function.specs.declared.Refreshed.{Refreshed}
-use Rattle.hbc_function.specs.declared.Refreshed.TheVariants as refreshed
 use Rattle.hbc_function.specs.Table.{Table, ReadFunctions}
-use Rattle.hbc_function.specs.Refresh.{says_refreshed, RefreshFunctions}
-use Rattle.hbc_function_write.specs.declared.Wrote.{Wrote}
-use Rattle.hbc_function_write.specs.declared.Wrote.TheVariants as sent
+use Rattle.hbc_function.specs.Refresh.{RefreshFunctions}
 use Rattle.hbc_function_write.specs.Write.{WriteFunctions}
 use Rattle.hbc_rows.specs.Rows.{entry_at, row_at}
 use Rattle.hbc_rows.specs.Until.{until}
 use Rattle.hbc_table.specs.Table.{ReadTable}
 use Rattle.hbc_table_strings.specs.declared.Mode.{Mode}
 use Rattle.hbc_table_strings.specs.declared.Mode.TheVariants.{InOrder, Hermes}
-use Rattle.hbc_table_strings.specs.declared.Decoded.{Decoded}
-use Rattle.hbc_table_strings.specs.declared.Decoded.TheVariants as decoded
 use Rattle.hbc_table_strings.specs.Row.{string_width, string_words, row_of}
 use Rattle.hbc_table_strings.specs.Strings.{lesser, DecodeStrings}
 use Rattle.hbc_table_bytes.specs.StringBytes.{string_bytes}
-use Rattle.hbc_text_forms.specs.declared.Text.{Text}
-use Rattle.hbc_text_forms.specs.declared.Text.TheVariants as put
 use Rattle.hbc_text_forms.specs.Scalars.{Scalars}
 use Rattle.hbc_text_forms.specs.Text.{PutText}
 use Rattle.hbc_text.specs.StringText.{StringText}
 use Rattle.hbc_json.specs.StringsJson.{StringsJson}
 use Rattle.hbc_buffer_literal.specs.Literal.{literal_at}
-use Rattle.hbc_buffer.specs.declared.Series.TheVariants as series
 use Rattle.hbc_buffer.specs.Series.{Run, after, head_at, ReadSeries}
 use Rattle.hbc_buffer_object.specs.declared.Object.{Object}
 use Rattle.hbc_buffer_object.specs.Object.{named as choice, object_part, ReadObject}
-use Rattle.hbc_parsing_handlers.specs.declared.Listed.TheVariants as listed
+use Rattle.hbc_parsing_handlers.specs.declared.Reason.{Reason}
 use Rattle.hbc_parsing_handlers.specs.declared.Table.{Table as Triples}
-use Rattle.hbc_parsing_handlers.specs.declared.Why.TheVariants as reason
-use Rattle.hbc_parsing_handlers.specs.declared.Explained.{Explained}
 use Rattle.hbc_parsing_handlers.specs.Why.{why, shown, WhyNoHandlers}
 use Rattle.hbc_parsing_handlers.specs.Handlers.{handler_width, total, handler_row, ReadHandlers}
 use Rattle.hbc_parsing_sections.specs.declared.Sections.{Sections}
-use Rattle.hbc_parsing_sections.specs.declared.ReadSections.TheVariants as sections
 use Rattle.hbc_parsing_sections.specs.Laid.{Laid}
-use Rattle.hbc_parsing_sections.specs.Sections.{sections_at, says_sections}
+use Rattle.hbc_parsing_sections.specs.Sections.{sections_at}
 use Rattle.hbc_debug_parts.specs.declared.InFile.{InFile}
-use Rattle.hbc_debug_parts.specs.declared.Written.TheVariants as wrote
 use Rattle.hbc_debug_parts.specs.Along.{along}
 use Rattle.hbc_debug_strings.specs.Strings.{strings_of, string_width as debug_width, prefix_number, string_numbers, WriteStrings}
 use Rattle.hbc_debug_scopes.specs.declared.ScopeCounts.{ScopeCounts}
@@ -99,7 +80,6 @@ use Rattle.hbc_debug_scopes.specs.Scopes.{Scope, scope_at, scopes_of, scope_widt
 use Rattle.hbc_debug_rising.specs.Rising.{Callee}
 use Rattle.hbc_debug_callees.specs.Callees.{callees_of, callee_width, WriteCallees}
 use Rattle.hbc_debug.specs.declared.Counts.{Counts}
-use Rattle.hbc_debug.specs.declared.Debugged.TheVariants as debugged
 use Rattle.hbc_debug.specs.Debug.{Tables, Contents, contents_at, string_count, counts_of, numbers_read, ReadDebug}
 use Rattle.hbc_c_code.specs.Code.{code_of}
 use Rattle.hbc_c_code.specs.Told.{Moves, Reads as ReadTold}
@@ -116,7 +96,7 @@ use Rattle.hbc_claims_law.specs.Terms.{Same, Shared, RowWord, flagged, packed_at
 use Rattle.hbc_claims_io.specs.Unique as u_io
 use Rattle.hbc_claims_io.specs.Reader as u_reader
 use Rattle.hbc_claims_io.specs.Leb128.{MarkTells}
-use Rattle.hbc_claims_io.specs.Reader.{Lent, LentMut, New, Position, Remaining, Seek, U32, Uleb128, Bytes, Part}
+use Rattle.hbc_claims_io.specs.Reader.{Lent, LentMut, Read, Move, New, Position, Remaining, Seek, U32, Uleb128, Bytes, Part}
 use Rattle.hbc_claims_function.specs.Packed as packed
 use Rattle.hbc_claims_function.specs.BitLayout.{Covers, Named}
 use Rattle.hbc_claims_function.specs.Unique as u_function
@@ -138,6 +118,7 @@ use Rattle.hbc_claims_json.specs.Rows.{OfRows}
 use Rattle.hbc_claims_json.specs.Put.{PutsJson}
 use Rattle.hbc_claims_json.specs.Cases as arrays
 use Rattle.hbc_claims_json.specs.Unique as u_json
+use Rattle.hbc_claims_buffer.specs.Refused.{object_in, NoObject}
 use Rattle.hbc_claims_buffer.specs.Unique as u_buffer
 use Rattle.hbc_claims_parsing.specs.HandlerRows.{OfRecord}
 use Rattle.hbc_claims_parsing.specs.Why.{Explains, Lists}
@@ -148,8 +129,7 @@ use Rattle.hbc_claims_debug.specs.Callees.{CalleesRead}
 use Rattle.hbc_claims_debug.specs.Left.{PastRows}
 use Rattle.hbc_claims_debug.specs.Marks.{Told}
 use Rattle.hbc_claims_debug.specs.Unique as u_debug
-use Rattle.hbc_clean.specs.declared.Bundle.{Bundle}
-use Rattle.hbc_clean.specs.Bundle.{Given, says_bundle, check_bundle}
+use Rattle.hbc_clean.specs.Bundle.{Given, Bundle, says_bundle, check_bundle}
 use Rattle.hbc_claims_clean.specs.Bundle.{Judges}
 use Rattle.hbc_claims_clean.specs.Cases as bundles
 use Rattle.hbc_claims_clean.specs.Unique as u_clean
@@ -186,13 +166,13 @@ pub record Reader {M : Type 1} {𝓤 : Ura M} (𝓛 : Logic 𝓤) (mem : Memory 
       → of_new.ensures-1 𝓛 κs mem run a b r ≡ fact 𝓤 (New b.entry r)
   pub position : (κs : Lfts 2) (a : Bor ByteReader) (b : Lent) (r : ℕ) → of_position.ensures-1 𝓛 κs mem run a b r ≡ fact 𝓤 (Position b.entry.now r)
   pub remaining : (κs : Lfts 2) (a : Bor ByteReader) (b : Lent) (r : ℕ) → of_remaining.ensures-1 𝓛 κs mem run a b r ≡ fact 𝓤 (Remaining b.entry.now r)
-  pub seek : (κs : Lfts 2) (a : MutBor ByteReader) (to : ℕ) (b : LentMut) (t : Both ℕ ℕ) (r : Moved)
+  pub seek : (κs : Lfts 2) (a : MutBor ByteReader) (to : ℕ) (b : LentMut) (t : Both ℕ ℕ) (r : Move)
       → of_seek.ensures-1 𝓛 κs mem run a to b t r ≡ fact 𝓤 (Seek to b.entry.now r b.exit.now)
-  pub read_u32 : (κs : Lfts 2) (a : MutBor ByteReader) (b : LentMut) (r : ReadU32)
+  pub read_u32 : (κs : Lfts 2) (a : MutBor ByteReader) (b : LentMut) (r : Read ℕ)
       → of_read_u32.ensures-1 𝓛 κs mem run a b r ≡ fact 𝓤 (U32 b.entry.now r b.exit.now)
-  pub read_uleb128 : (κs : Lfts 2) (a : MutBor ByteReader) (b : LentMut) (r : ReadUleb)
+  pub read_uleb128 : (κs : Lfts 2) (a : MutBor ByteReader) (b : LentMut) (r : Read Uleb)
       → of_read_uleb128.ensures-1 𝓛 κs mem run a b r ≡ fact 𝓤 (Uleb128 b.entry.now r b.exit.now)
-  pub read_bytes : (κs : Lfts 2) (a : MutBor ByteReader) (n : ℕ) (b : LentMut) (t : Both ℕ ℕ) (r : ReadSpan)
+  pub read_bytes : (κs : Lfts 2) (a : MutBor ByteReader) (n : ℕ) (b : LentMut) (t : Both ℕ ℕ) (r : Read Span)
       → of_read_bytes.ensures-1 𝓛 κs mem run a n b t r ≡ fact 𝓤 (Bytes n b.entry.now r b.exit.now)
   pub part : (κs : Lfts 2) (a : Bor ByteReader) (p : Span) (b : Lent) (t : Both Span Span) (r : Bor (List ℕ))
       → of_part.ensures-1 𝓛 κs mem run a p b t r ≡ fact 𝓤 (Part p b.entry.now r)
@@ -203,20 +183,20 @@ pub record Reader {M : Type 1} {𝓤 : Ura M} (𝓛 : Logic 𝓤) (mem : Memory 
 pub record Edited (a b : List ℕ) (layout : Layout) (start count low high : ℕ) (t t₀ t₁ : Table) : Type 0 where
   pub same : Same a b low high
   pub valid : (low ≤ high) × (high ≤ length b)
-  pub read : ReadFunctions a layout start count t reading.Read t₀
+  pub read : ReadFunctions a layout start count t (Ok tt) t₀
   pub rows : t₁.rows ≡ t₀.rows
   pub totals : True t₁ count
   pub bytes : (i : ℕ) → get_or b i 0 < 256
   pub words : Words t₁.rows
 
 -- then (`as_fresh`), r and t₂ being a fresh read's of b into t, and q and t₃ the refresh's of t₁ with b:
-pub record AsFresh (r : Reading) (q : Refreshed) (t₁ t₂ t₃ : Table) : Type 0 where
+pub record AsFresh (r : Res (Unit {0}) Refusal) (q : Res ℕ Refusal) (t₁ t₂ t₃ : Table) : Type 0 where
   -- (a) the refresh is accepted exactly when the fresh read is, and else refused with the same number at the same function
-  pub answers : says_reading r ≡ asked (says_refreshed q)
+  pub answers : answered r ≡ asked (answered q)
   -- (b) accepted, it leaves the fresh read's table, every word, the 17 of each row among them, and its two totals; refused, the table and the totals as they
   -- were
-  pub accepted : r ≡ reading.Read → t₃ ≡ t₂
-  pub refused : (x : Refusal) → r ≡ reading.Refused x → t₃ ≡ t₁
+  pub accepted : r ≡ Ok tt → t₃ ≡ t₂
+  pub refused : (x : Refusal) → r ≡ Err x → t₃ ≡ t₁
 
 -- for any table lent, an accepted refresh (refresh_functions) that reports k (`refreshes`):
 pub record Refreshes (s : List ℕ) (layout : Layout) (start count low high : ℕ) (t : Table) (k : ℕ) (t' : Table) : Type 0 where
@@ -266,34 +246,35 @@ pub record CursorLeft (s : List ℕ) (c : Cursor) (k : Refusal) (n : Cursor) : T
 -- lent tables and rows, by call: as they were (`tables_left`)
 pub record TablesLeft (k : Refusal) : Type 0 where
   -- read_u32_table (width 1), read_pair_table (width 2); and the cursor
-  pub table : (width : ℕ) (s : List ℕ) (c : Cursor) (count : ℕ) (t t' : List ℕ) (n : Cursor) → ReadTable width s c count t (moved.Refused k n) t'
-      → (t' ≡ t) × (n ≡ c)
+  pub table : (width : ℕ) (s : List ℕ) (c : Cursor) (count : ℕ) (t t' : List ℕ) (n : Cursor) → ReadTable width s c count t
+      (Err (record { refusal = k; cursor = n })) t' → (t' ≡ t) × (n ≡ c)
   pub decode_strings : (mode : Mode) (count : ℕ) (kinds small overflow storage t t' : List ℕ)
-      → DecodeStrings mode count kinds small overflow storage t (decoded.Refused k) t' → t' ≡ t
+      → DecodeStrings mode count kinds small overflow storage t (Err k) t' → t' ≡ t
   -- utf8_text and utf16_text, whatever the text; string_text
-  pub put_text : (text s t t' : List ℕ) → PutText text s t (put.Refused k) t' → t' ≡ t
-  pub string_text : (storage rows : List ℕ) (index : ℕ) (t t' : List ℕ) → StringText storage rows index t (put.Refused k) t' → t' ≡ t
+  pub put_text : (text s t t' : List ℕ) → PutText text s t (Err k) t' → t' ≡ t
+  pub string_text : (storage rows : List ℕ) (index : ℕ) (t t' : List ℕ) → StringText storage rows index t (Err k) t' → t' ≡ t
   -- (escaped_text is a `put_text`)
-  pub strings_json : (storage rows : List ℕ) (count : ℕ) (t t' : List ℕ) → StringsJson storage rows count t (put.Refused k) t' → t' ≡ t
+  pub strings_json : (storage rows : List ℕ) (count : ℕ) (t t' : List ℕ) → StringsJson storage rows count t (Err k) t' → t' ≡ t
   -- the rows and both totals
-  pub read_functions : (s : List ℕ) (layout : Layout) (start count : ℕ) (t t' : Table) → ReadFunctions s layout start count t (reading.Refused k) t' → t' ≡ t
+  pub read_functions : (s : List ℕ) (layout : Layout) (start count : ℕ) (t t' : Table) → ReadFunctions s layout start count t (Err k) t' → t' ≡ t
   pub refresh_functions : (s : List ℕ) (layout : Layout) (start count low high : ℕ) (t t' : Table)
-      → RefreshFunctions s layout start count low high t (refreshed.Refused k) t' → t' ≡ t
-  pub function_row : (s : List ℕ) (layout : Layout) (start i : ℕ) (t t' : List ℕ) → FunctionRow s layout start i t (reading.Refused k) t' → t' ≡ t
+      → RefreshFunctions s layout start count low high t (Err k) t' → t' ≡ t
+  pub function_row : (s : List ℕ) (layout : Layout) (start i : ℕ) (t t' : List ℕ) → FunctionRow s layout start i t (Err k) t' → t' ≡ t
   -- the buffer of write_functions
   pub write_functions : (rows : List ℕ) (layout : Layout) (start count large : ℕ) (b b' : List ℕ)
-      → WriteFunctions rows layout start count large b (sent.Refused k) b' → b' ≡ b
+      → WriteFunctions rows layout start count large b (Err k) b' → b' ≡ b
   pub read_series : (s : List ℕ) (offset count : ℕ) (ks ps ks' ps' : List ℕ)
-      → ReadSeries s offset count ks ps (series.Refused k) ks' ps' → (ks' ≡ ks) × (ps' ≡ ps)
-  -- read_object; and object_part hands back no bytes
-  pub object : (keys values : List ℕ) (b : Bool) (offset count : ℕ) (ks ps : List ℕ) (o : Object) (ks' ps' : List ℕ)
-      → ReadObject keys values b offset count ks ps o ks' ps' → (o.refusal.number ≡ 0 → ⊥) → (ks' ≡ ks) × (ps' ≡ ps) × (object_part keys values o ≡ [])
+      → ReadSeries s offset count ks ps (Err k) ks' ps' → (ks' ≡ ks) × (ps' ≡ ps)
+  -- read_object; of a refused one object_part hands back no bytes, whichever buffer it names, and no object is read of the same words
+  pub object : (keys values : List ℕ) (b : Bool) (offset count : ℕ) (ks ps ks' ps' : List ℕ)
+      → ReadObject keys values b offset count ks ps (Err k) ks' ps'
+      → (ks' ≡ ks) × (ps' ≡ ps) × ((c : Bool) → object_part keys values (object_in c (Err k)) ≡ []) × NoObject keys values b offset count ks ps
   -- read_handlers (why_no_handlers and trailing_sections are lent nothing)
-  pub handlers : (s functions : List ℕ) (count : ℕ) (t t' : List ℕ) → ReadHandlers s functions count t (listed.Refused k) t' → t' ≡ t
-  pub read_debug : (file : List ℕ) (offset : ℕ) (t t' : Tables) → ReadDebug file offset t (debugged.Refused k) t' → t' ≡ t
-  pub write_strings : (s : List ℕ) (base : InFile) (count : ℕ) (t t' : List ℕ) → WriteStrings s base count t (wrote.Refused k) t' → t' ≡ t
-  pub write_scopes : (s : List ℕ) (n : ℕ) (k' : ScopeCounts) (t t' : List ℕ × List ℕ) → WriteScopes s n k' t (wrote.Refused k) t' → t' ≡ t
-  pub write_callees : (s : List ℕ) (n count : ℕ) (t t' : List ℕ) → WriteCallees s n count t (wrote.Refused k) t' → t' ≡ t
+  pub handlers : (s functions : List ℕ) (count : ℕ) (t t' : List ℕ) → ReadHandlers s functions count t (Err k) t' → t' ≡ t
+  pub read_debug : (file : List ℕ) (offset : ℕ) (t t' : Tables) → ReadDebug file offset t (Err k) t' → t' ≡ t
+  pub write_strings : (s : List ℕ) (base : InFile) (count : ℕ) (t t' : List ℕ) → WriteStrings s base count t (Err k) t' → t' ≡ t
+  pub write_scopes : (s : List ℕ) (n : ℕ) (k' : ScopeCounts) (t t' : List ℕ × List ℕ) → WriteScopes s n k' t (Err k) t' → t' ≡ t
+  pub write_callees : (s : List ℕ) (n count : ℕ) (t t' : List ℕ) → WriteCallees s n count t (Err k) t' → t' ≡ t
 
 -- the exported calls whose answer r is not 0: every lent number and word is as it was, but for the cursor of a LEB128 number or a string (`exported_left`)
 pub record ExportedLeft (s : List ℕ) (at r at' : ℕ) : Type 1 where
@@ -414,19 +395,19 @@ pub record StringsRead (mode : Mode) (count : ℕ) (kinds small overflow storage
 -- the two modes of decode_strings (`modes`):
 pub record Modes (count : ℕ) (kinds small overflow storage : List ℕ) : Type 0 where
   -- what the old one promises is what decode_strings promised while there was no other, word for word as it was, and the other way round
-  pub as_before : (t t' : List ℕ) (r : Decoded) → DecodeStrings InOrder count kinds small overflow storage t r t'
+  pub as_before : (t t' : List ℕ) (r : Res ℕ Refusal) → DecodeStrings InOrder count kinds small overflow storage t r t'
       → was.DecodeStrings count kinds small overflow storage t r t'
-  pub before_as : (t t' : List ℕ) (r : Decoded) → was.DecodeStrings count kinds small overflow storage t r t'
+  pub before_as : (t t' : List ℕ) (r : Res ℕ Refusal) → was.DecodeStrings count kinds small overflow storage t r t'
       → DecodeStrings InOrder count kinds small overflow storage t r t'
   -- in Hermes mode a string's kind is that of the run one of whose strings it is, by the lengths of runs, added up, and past the last run a plain string's;
   -- and of length 255 it takes the pair whose number is in the offset field
   pub kind : ByLengths kinds
   pub row : (i : ℕ) → AsHermes kinds small overflow (length storage) i
   -- refused 8 in either mode: at the first string of length 255 whose pair, as above, is past the whole pairs lent
-  pub lacking : (mode : Mode) (t t' : List ℕ) (k : Refusal) → DecodeStrings mode count kinds small overflow storage t (decoded.Refused k) t' → k.number ≡ 8
+  pub lacking : (mode : Mode) (t t' : List ℕ) (k : Refusal) → DecodeStrings mode count kinds small overflow storage t (Err k) t' → k.number ≡ 8
       → FirstLacking mode small overflow (lesser count (length small)) k.place
   -- where the strings of length 255 have the numbers of the pairs in order, and no run is empty, both give the same answer and the same rows
-  pub agree : (t t₁ t₂ : List ℕ) (r q : Decoded) → Tidy kinds small (lesser count (length small))
+  pub agree : (t t₁ t₂ : List ℕ) (r q : Res ℕ Refusal) → Tidy kinds small (lesser count (length small))
       → DecodeStrings InOrder count kinds small overflow storage t r t₁ → DecodeStrings Hermes count kinds small overflow storage t q t₂ → (r ≡ q) × (t₁ ≡ t₂)
 
 -- read_series of n bytes (`series_read`):
@@ -444,7 +425,7 @@ pub record ObjectRead (keys values : List ℕ) (b : Bool) (offset count : ℕ) (
   -- all that read_series of as many bytes gives, in the buffer that was named
   pub series : SeriesRead (choice b keys values) offset count ks ps o.len ks' ps'
   -- it names that buffer and the place of the bytes, and object_part hands them back; for count 0, the buffer's empty beginning
-  pub names : (o.«yes» ≡ b) × (o.refusal.place ≡ 0)
+  pub names : o.«yes» ≡ b
   pub some : (count ≡ 0 → ⊥) → (o.start ≡ offset) × (object_part keys values o ≡ take o.len (drop offset (choice b keys values)))
   pub none : count ≡ 0 → (o.start ≡ 0) × (object_part keys values o ≡ [])
 
@@ -452,8 +433,8 @@ pub record ObjectRead (keys values : List ℕ) (b : Bool) (offset count : ℕ) (
 pub record HandlersRead (s functions : List ℕ) (count : ℕ) (t : List ℕ) (n : ℕ) (t' : List ℕ) : Type 0 where
   -- as many as the functions have; function i has rows exactly when its reason is "shown", and then as many as that says
   pub counts : n ≡ total s functions count
-  pub some : (i : ℕ) (w : Triples) → why s functions i ≡ reason.Shown w → (0 < w.count) × (total s functions (suc i) ≡ total s functions i + w.count)
-  pub only : (i : ℕ) → 0 < (shown s functions i).count → (w : Triples) × (why s functions i ≡ reason.Shown w)
+  pub some : (i : ℕ) (w : Triples) → why s functions i ≡ Ok w → (0 < w.count) × (total s functions (suc i) ≡ total s functions i + w.count)
+  pub only : (i : ℕ) → 0 < (shown s functions i).count → (w : Triples) × (why s functions i ≡ Ok w)
   -- each row is of one of the functions; handler j of function i is row total i + j; no word behind the rows changes, and the table is as long
   pub whose : (k : ℕ) → k < n → Whose s functions count k
   pub row : (i j : ℕ) → i < count → j < (shown s functions i).count
@@ -590,8 +571,8 @@ pub record EitherOrder (s : List ℕ) (count : ℕ) (a ab b ba : Result) : Type 
   pub same : ab.table ≡ ba.table
   pub sound : Sound s count ab.table
   -- if the first pane's is refused, only the second's effect stands, before or after it: what the second's alone leaves; and the other way round
-  pub first_refused : (x : Refusal) → a.answer ≡ refreshed.Refused x → (ab.table ≡ b.table) × (ba.table ≡ b.table)
-  pub second_refused : (x : Refusal) → b.answer ≡ refreshed.Refused x → (ab.table ≡ a.table) × (ba.table ≡ a.table)
+  pub first_refused : (x : Refusal) → a.answer ≡ Err x → (ab.table ≡ b.table) × (ba.table ≡ b.table)
+  pub second_refused : (x : Refusal) → b.answer ≡ Err x → (ab.table ≡ a.table) × (ba.table ≡ a.table)
 
 -- where the totals are true, one done twice is done once: the second time the same answer, with the same number, and the same table (`twice`)
 -- of any table and any totals, true or not: refreshes that are all accepted report the same, first or second, and leave the same table (`any_order`); and so
@@ -618,12 +599,12 @@ pub record Touching (low₁ high₁ low₂ high₂ : ℕ) : Type 0 where
 -- then of one refresh c over both, from the first byte of them to the last (`as_one`):
 pub record AsOne (s : List ℕ) (layout : Layout) (start count low₁ high₁ low₂ high₂ : ℕ) (t : Table) (a ab b c : Result) : Type 0 where
   -- it is accepted exactly when both are, and is else refused as one of them is, and neither at a lower place
-  pub answers : OfBoth (says_refreshed a.answer) (says_refreshed b.answer) (says_refreshed c.answer)
+  pub answers : OfBoth (answered a.answer) (answered b.answer) (answered c.answer)
   -- accepted, it leaves the table that the two leave, and reports how many functions meet one span or the other
-  pub table : (j : ℕ) → c.answer ≡ refreshed.Done j → c.table ≡ ab.table
-  pub counts : (j : ℕ) → c.answer ≡ refreshed.Done j → j ≡ count_of (either (meets s layout start low₁ high₁) (meets s layout start low₂ high₂)) count
+  pub table : (j : ℕ) → c.answer ≡ Ok j → c.table ≡ ab.table
+  pub counts : (j : ℕ) → c.answer ≡ Ok j → j ≡ count_of (either (meets s layout start low₁ high₁) (meets s layout start low₂ high₂)) count
   -- refused, it leaves the table as it was, also where one of the two alone would have had its effect
-  pub refused : (x : Refusal) → c.answer ≡ refreshed.Refused x → c.table ≡ t
+  pub refused : (x : Refusal) → c.answer ≡ Err x → c.table ≡ t
 
 -- given, as in section 3: t₀ became t₁ by an accepted read of an older file o, and t has its rows; the file s, with both edits, is as long as o and the same
 -- outside the two spans, each of which is in the file
@@ -631,15 +612,15 @@ pub record EditedTwice (o s : List ℕ) (layout : Layout) (start count low₁ hi
   pub same : SameBut o s low₁ high₁ low₂ high₂
   pub first : (low₁ ≤ high₁) × (high₁ ≤ length s)
   pub second : (low₂ ≤ high₂) × (high₂ ≤ length s)
-  pub read : ReadFunctions o layout start count t₀ reading.Read t₁
+  pub read : ReadFunctions o layout start count t₀ (Ok tt) t₁
   pub rows : t.rows ≡ t₁.rows
 
 -- then (`both_fresh`), r and t₂ being a fresh read's of s into t₀:
-pub record BothFresh (r : Reading) (t₂ : Table) (a ab b ba : Result) : Type 0 where
+pub record BothFresh (r : Res (Unit {0}) Refusal) (t₂ : Table) (a ab b ba : Result) : Type 0 where
   -- the fresh read is accepted exactly when both refreshes are, and is else refused as one of them is, and neither at a lower place
-  pub answers : OfBoth (says_refreshed a.answer) (says_refreshed b.answer) (says_reading r)
+  pub answers : OfBoth (answered a.answer) (answered b.answer) (answered r)
   -- and accepted, both in either order leave its table, every word and both totals
-  pub table : r ≡ reading.Read → (ab.table ≡ t₂) × (ba.table ≡ t₂)
+  pub table : r ≡ Ok tt → (ab.table ≡ t₂) × (ba.table ≡ t₂)
 
 -- and if the first pane's was refused, or is not yet done: the second's is accepted, and makes t into u; then the first pane changes bytes of its span again,
 -- or puts them back, so that s' is as long as s and the same outside that span, and has its span refreshed with s'. That is as a fresh read of s' is, in
@@ -680,13 +661,13 @@ pub record Theorems : Type 2 where
   pub worked_arrays : All arrays.cases
   pub unique : Unique
   pub reader : {M : Type 1} {𝓤 : Ura M} (𝓛 : Logic 𝓤) (mem : Memory → SProp 𝓤) (run : Routine → Fun 𝓤) → Reader 𝓛 mem run
-  pub as_fresh : (a b : List ℕ) (layout : Layout) (start count low high : ℕ) (t t₀ t₁ t₂ t₃ : Table) (r : Reading) (q : Refreshed)
+  pub as_fresh : (a b : List ℕ) (layout : Layout) (start count low high : ℕ) (t t₀ t₁ t₂ t₃ : Table) (r : Res (Unit {0}) Refusal) (q : Res ℕ Refusal)
       → Edited a b layout start count low high t t₀ t₁ → ReadFunctions b layout start count t r t₂ → RefreshFunctions b layout start count low high t₁ q t₃
       → AsFresh r q t₁ t₂ t₃
   pub refreshes : (s : List ℕ) (layout : Layout) (start count low high k : ℕ) (t t' : Table)
-      → RefreshFunctions s layout start count low high t (refreshed.Done k) t' → Refreshes s layout start count low high t k t'
+      → RefreshFunctions s layout start count low high t (Ok k) t' → Refreshes s layout start count low high t k t'
   pub met : (s : List ℕ) (layout : Layout) (start low high i : ℕ) → Meets s layout start low high i (header_at layout start i)
-  pub reads : (s : List ℕ) (layout : Layout) (start count : ℕ) (t t' : Table) → ReadFunctions s layout start count t reading.Read t'
+  pub reads : (s : List ℕ) (layout : Layout) (start count : ℕ) (t t' : Table) → ReadFunctions s layout start count t (Ok tt) t'
       → Reads s layout start count t t'
   pub cursor_left : (s : List ℕ) (c : Cursor) (k : Refusal) (n : Cursor) → CursorLeft s c k n
   pub tables_left : (k : Refusal) → TablesLeft k
@@ -698,33 +679,33 @@ pub record Theorems : Type 2 where
   pub named : (i n : ℕ) → Named i n
   pub whole : (s : List ℕ) (k : ℕ) → Whole s k
   pub table_read : (width : ℕ) (s : List ℕ) (c : Cursor) (count : ℕ) (t : List ℕ) (n : Cursor) (t' : List ℕ)
-      → ReadTable width s c count t (moved.To n) t' → TableRead width s c count t n t'
+      → ReadTable width s c count t (Ok n) t' → TableRead width s c count t n t'
   pub strings_read : (mode : Mode) (count : ℕ) (kinds small overflow storage t : List ℕ) (n : ℕ) (t' : List ℕ)
-      → DecodeStrings mode count kinds small overflow storage t (decoded.Rows n) t' → StringsRead mode count kinds small overflow storage t n t'
+      → DecodeStrings mode count kinds small overflow storage t (Ok n) t' → StringsRead mode count kinds small overflow storage t n t'
   pub modes : (count : ℕ) (kinds small overflow storage : List ℕ) → Modes count kinds small overflow storage
   pub texts : Texts
-  pub text_put : (text s t : List ℕ) (r : Text) (t' : List ℕ) → PutText text s t r t' → Puts text s t r t'
-  pub row_put : (s rows : List ℕ) (k : ℕ) (t : List ℕ) (r : Text) (t' : List ℕ) → StringText s rows k t r t' → PutsRow s rows k t r t'
+  pub text_put : (text s t : List ℕ) (r : Res ℕ Refusal) (t' : List ℕ) → PutText text s t r t' → Puts text s t r t'
+  pub row_put : (s rows : List ℕ) (k : ℕ) (t : List ℕ) (r : Res ℕ Refusal) (t' : List ℕ) → StringText s rows k t r t' → PutsRow s rows k t r t'
   pub json : Json
-  pub json_put : (s rows : List ℕ) (count : ℕ) (t : List ℕ) (r : Text) (t' : List ℕ) → ((i : ℕ) → get_or s i 0 < 256)
+  pub json_put : (s rows : List ℕ) (count : ℕ) (t : List ℕ) (r : Res ℕ Refusal) (t' : List ℕ) → ((i : ℕ) → get_or s i 0 < 256)
       → StringsJson s rows count t r t' → PutsJson s rows count t r t'
   pub series_read : (s : List ℕ) (offset count : ℕ) (ks ps : List ℕ) (n : ℕ) (ks' ps' : List ℕ)
-      → ReadSeries s offset count ks ps (series.Used n) ks' ps' → SeriesRead s offset count ks ps n ks' ps'
+      → ReadSeries s offset count ks ps (Ok n) ks' ps' → SeriesRead s offset count ks ps n ks' ps'
   pub object_read : (keys values : List ℕ) (b : Bool) (offset count : ℕ) (ks ps : List ℕ) (o : Object) (ks' ps' : List ℕ)
-      → ReadObject keys values b offset count ks ps o ks' ps' → o.refusal.number ≡ 0 → ObjectRead keys values b offset count ks ps o ks' ps'
+      → ReadObject keys values b offset count ks ps (Ok o) ks' ps' → ObjectRead keys values b offset count ks ps o ks' ps'
   pub handlers_read : (s functions : List ℕ) (count : ℕ) (t : List ℕ) (n : ℕ) (t' : List ℕ)
-      → ReadHandlers s functions count t (listed.Rows n) t' → HandlersRead s functions count t n t'
-  pub explained : (s functions : List ℕ) (id : ℕ) (r : Explained) → WhyNoHandlers s functions id r → Explains s functions id r
-  pub explained_rows : (s functions : List ℕ) (id count : ℕ) (t : List ℕ) (r : Explained) (n : ℕ) (t' : List ℕ) → id < count
-      → WhyNoHandlers s functions id r → ReadHandlers s functions count t (listed.Rows n) t' → Lists id r n t'
-  pub explained_header : (s : List ℕ) (layout : Layout) (start count : ℕ) (t t' : Table) → ReadFunctions s layout start count t reading.Read t'
+      → ReadHandlers s functions count t (Ok n) t' → HandlersRead s functions count t n t'
+  pub explained : (s functions : List ℕ) (id : ℕ) (r : Res (Res Triples Reason) Refusal) → WhyNoHandlers s functions id r → Explains s functions id r
+  pub explained_rows : (s functions : List ℕ) (id count : ℕ) (t : List ℕ) (r : Res (Res Triples Reason) Refusal) (n : ℕ) (t' : List ℕ) → id < count
+      → WhyNoHandlers s functions id r → ReadHandlers s functions count t (Ok n) t' → Lists id r n t'
+  pub explained_header : (s : List ℕ) (layout : Layout) (start count : ℕ) (t t' : Table) → ReadFunctions s layout start count t (Ok tt) t'
       → (id : ℕ) → id < count → (f : Found) × (function_at s layout start id ≡ gives f) × OfRecord f.own t'.rows id
   pub explained_told : (s functions : List ℕ) (id n r n' : ℕ) → ToldWhy s functions id n r n'
-      → (q : Explained) × WhyNoHandlers s functions id q × WhyTold q n r n'
+      → (q : Res (Res Triples Reason) Refusal) × WhyNoHandlers s functions id q × WhyTold q n r n'
   pub sections_read : (s : List ℕ) (start regexps storage cjs : ℕ) (given : Bool) (sources : ℕ) (v : Sections)
-      → says_sections (sections.Got v) ≡ told (sections_at start regexps storage cjs given sources s) → SectionsRead s start regexps storage cjs given sources v
+      → answered (Ok v) ≡ told (sections_at start regexps storage cjs given sources s) → SectionsRead s start regexps storage cjs given sources v
   pub debug_read : (file : List ℕ) (offset : ℕ) (t : Tables) (k : Counts) (e : Bool) (t' : Tables)
-      → ReadDebug file offset t (debugged.Read k e) t' → DebugRead (contents_at file offset) t k e t'
+      → ReadDebug file offset t (Ok (record { value = k; exact = e })) t' → DebugRead (contents_at file offset) t k e t'
   pub writes : (rows : List ℕ) (layout : Layout) (start count large : ℕ) (b : List ℕ) (e : ℕ) (b' : List ℕ)
       → Written rows layout start count large b e b' → Writes rows layout start count large b e b'
   -- two writes that leave the same buffer were of the same rows but for the 17th word, wherever their large headers went and whatever the buffers were
@@ -732,56 +713,56 @@ pub record Theorems : Type 2 where
       → Written rows₁ layout start count large₁ b₁ e₁ b' → Written rows₂ layout start count large₂ b₂ e₂ b'
       → SameRecords rows₁ rows₂ count
   -- and the same rows, whatever their 17th words and whatever is lent behind them, give one answer and one buffer: the writer does not look at those
-  pub one_output : (rows₁ rows₂ : List ℕ) (layout : Layout) (start count large : ℕ) (b : List ℕ) (r q : Wrote) (b₁ b₂ : List ℕ)
+  pub one_output : (rows₁ rows₂ : List ℕ) (layout : Layout) (start count large : ℕ) (b : List ℕ) (r q : Res ℕ Refusal) (b₁ b₂ : List ℕ)
       → count * width ≤ length rows₁ → count * width ≤ length rows₂ → SameRecords rows₁ rows₂ count
       → WriteFunctions rows₁ layout start count large b r b₁ → WriteFunctions rows₂ layout start count large b q b₂ → (r ≡ q) × (b₁ ≡ b₂)
-  pub place_read : (s : List ℕ) (layout : Layout) (start count : ℕ) (t t' : Table) → ReadFunctions s layout start count t reading.Read t'
+  pub place_read : (s : List ℕ) (layout : Layout) (start count : ℕ) (t t' : Table) → ReadFunctions s layout start count t (Ok tt) t'
       → (i : ℕ) → i < count → Tells s layout (header_at layout start i) i (row_at width t'.rows i)
   pub place_refreshed : (s : List ℕ) (layout : Layout) (start count low high k : ℕ) (t t' : Table)
-      → RefreshFunctions s layout start count low high t (refreshed.Done k) t' → (i : ℕ) → i < count → meets s layout start low high i ≡ true
+      → RefreshFunctions s layout start count low high t (Ok k) t' → (i : ℕ) → i < count → meets s layout start low high i ≡ true
       → Tells s layout (header_at layout start i) i (row_at width t'.rows i)
-  pub place_row : (s : List ℕ) (layout : Layout) (start i : ℕ) (row row' : List ℕ) → FunctionRow s layout start i row reading.Read row'
+  pub place_row : (s : List ℕ) (layout : Layout) (start i : ℕ) (row row' : List ℕ) → FunctionRow s layout start i row (Ok tt) row'
       → Tells s layout (header_at layout start i) i row'
-  pub place_one : (s : List ℕ) (layout : Layout) (start i : ℕ) (r : Record) (place : ℕ) → says_function (function.Read r place) ≡ read_function s layout start i
+  pub place_one : (s : List ℕ) (layout : Layout) (start i : ℕ) (r : Record) (place : ℕ) → answered (Ok (found_at place r)) ≡ read_function s layout start i
       → Tells s layout (header_at layout start i) i (row_words (found_at place r))
-  pub totals_read : (s : List ℕ) (layout : Layout) (start count : ℕ) (t t' : Table) → ReadFunctions s layout start count t reading.Read t' → True t' count
+  pub totals_read : (s : List ℕ) (layout : Layout) (start count : ℕ) (t t' : Table) → ReadFunctions s layout start count t (Ok tt) t' → True t' count
   pub totals_kept : (s : List ℕ) (layout : Layout) (start count low high k : ℕ) (t t' : Table)
-      → RefreshFunctions s layout start count low high t (refreshed.Done k) t' → True t count → True t' count
+      → RefreshFunctions s layout start count low high t (Ok k) t' → True t count → True t' count
   pub totals_moved : (s : List ℕ) (layout : Layout) (start count low high k : ℕ) (t t' : Table)
-      → RefreshFunctions s layout start count low high t (refreshed.Done k) t' → TotalsMoved (meets s layout start low high) count k t t'
+      → RefreshFunctions s layout start count low high t (Ok k) t' → TotalsMoved (meets s layout start low high) count k t t'
   pub totals_passed : (s : List ℕ) (layout : Layout) (start count low high k : ℕ) (t t' : Table)
-      → RefreshFunctions s layout start count low high t (refreshed.Done k) t' → (i : ℕ) → i < count → meets s layout start low high i ≡ true
+      → RefreshFunctions s layout start count low high t (Ok k) t' → (i : ℕ) → i < count → meets s layout start low high i ≡ true
       → Passed s layout start low high t i
   pub totals_fit : (s : List ℕ) (layout : Layout) (start count low high : ℕ) (t t' : Table) (x : Refusal) → ((i : ℕ) → get_or s i 0 < 256) → Words t.rows
-      → True t count → RefreshFunctions s layout start count low high t (refreshed.Refused x) t' → x.number ≡ 16 → ⊥
+      → True t count → RefreshFunctions s layout start count low high t (Err x) t' → x.number ≡ 16 → ⊥
   pub totals_stopped : (s : List ℕ) (layout : Layout) (start count low high : ℕ) (t t' : Table) (x : Refusal)
-      → RefreshFunctions s layout start count low high t (refreshed.Refused x) t' → x.number ≡ 16 → Stopped s layout start count low high t x.place
+      → RefreshFunctions s layout start count low high t (Err x) t' → x.number ≡ 16 → Stopped s layout start count low high t x.place
   pub either_order : (s : List ℕ) (layout : Layout) (start count low₁ high₁ low₂ high₂ : ℕ) (t : Table) (a ab b ba : Result) → Sound s count t
       → Panes s layout start count low₁ high₁ low₂ high₂ t a ab b ba → EitherOrder s count a ab b ba
   pub twice : (s : List ℕ) (layout : Layout) (start count low high : ℕ) (t : Table) (a aa : Result) → True t count → Over s layout start count low high t a
       → Over s layout start count low high a.table aa → aa ≡ a
   pub any_order : (s : List ℕ) (layout : Layout) (start count low₁ high₁ low₂ high₂ k m m' k' : ℕ) (t t₁ t₁₂ t₂ t₂₁ : Table)
-      → RefreshFunctions s layout start count low₁ high₁ t (refreshed.Done k) t₁ → RefreshFunctions s layout start count low₂ high₂ t₁ (refreshed.Done m) t₁₂
-      → RefreshFunctions s layout start count low₂ high₂ t (refreshed.Done m') t₂ → RefreshFunctions s layout start count low₁ high₁ t₂ (refreshed.Done k') t₂₁
+      → RefreshFunctions s layout start count low₁ high₁ t (Ok k) t₁ → RefreshFunctions s layout start count low₂ high₂ t₁ (Ok m) t₁₂
+      → RefreshFunctions s layout start count low₂ high₂ t (Ok m') t₂ → RefreshFunctions s layout start count low₁ high₁ t₂ (Ok k') t₂₁
       → (k' ≡ k) × (m ≡ m') × (t₁₂ ≡ t₂₁)
   pub any_twice : (s : List ℕ) (layout : Layout) (start count low high k m : ℕ) (t t₁ t₂ : Table)
-      → RefreshFunctions s layout start count low high t (refreshed.Done k) t₁ → RefreshFunctions s layout start count low high t₁ (refreshed.Done m) t₂
+      → RefreshFunctions s layout start count low high t (Ok k) t₁ → RefreshFunctions s layout start count low high t₁ (Ok m) t₂
       → (m ≡ k) × (t₂ ≡ t₁)
   pub both_written : (s : List ℕ) (layout : Layout) (start count low₁ high₁ low₂ high₂ k m : ℕ) (t t₁ t' : Table)
-      → RefreshFunctions s layout start count low₁ high₁ t (refreshed.Done k) t₁ → RefreshFunctions s layout start count low₂ high₂ t₁ (refreshed.Done m) t'
+      → RefreshFunctions s layout start count low₁ high₁ t (Ok k) t₁ → RefreshFunctions s layout start count low₂ high₂ t₁ (Ok m) t'
       → BothWritten s layout start count low₁ high₁ low₂ high₂ t t'
   pub counts_shared : (s : List ℕ) (layout : Layout) (start count low₁ high₁ low₂ high₂ k m : ℕ) (t t' u u' : Table)
-      → RefreshFunctions s layout start count low₁ high₁ t (refreshed.Done k) t' → RefreshFunctions s layout start count low₂ high₂ u (refreshed.Done m) u'
+      → RefreshFunctions s layout start count low₁ high₁ t (Ok k) t' → RefreshFunctions s layout start count low₂ high₂ u (Ok m) u'
       → k + m ≡ count_of (either (meets s layout start low₁ high₁) (meets s layout start low₂ high₂)) count
       + count_of (both (meets s layout start low₁ high₁) (meets s layout start low₂ high₂)) count
   pub as_one : (s : List ℕ) (layout : Layout) (start count low₁ high₁ low₂ high₂ : ℕ) (t : Table) (a ab b ba c : Result) → Sound s count t
       → Panes s layout start count low₁ high₁ low₂ high₂ t a ab b ba → Touching low₁ high₁ low₂ high₂
       → Over s layout start count (min low₁ low₂) (max high₁ high₂) t c → AsOne s layout start count low₁ high₁ low₂ high₂ t a ab b c
-  pub both_fresh : (o s : List ℕ) (layout : Layout) (start count low₁ high₁ low₂ high₂ : ℕ) (t₀ t₁ t t₂ : Table) (a ab b ba : Result) (r : Reading)
-      → Sound s count t → EditedTwice o s layout start count low₁ high₁ low₂ high₂ t₀ t₁ t → Panes s layout start count low₁ high₁ low₂ high₂ t a ab b ba
-      → ReadFunctions s layout start count t₀ r t₂ → BothFresh r t₂ a ab b ba
-  pub mended : (o s s' : List ℕ) (layout : Layout) (start count low₁ high₁ low₂ high₂ k : ℕ) (t₀ t₁ t t₂ t₃ u : Table) (r : Reading) (q : Refreshed)
-      → Sound s count t → EditedTwice o s layout start count low₁ high₁ low₂ high₂ t₀ t₁ t
-      → RefreshFunctions s layout start count low₂ high₂ t (refreshed.Done k) u → Same s s' low₁ high₁ → ((i : ℕ) → get_or s' i 0 < 256)
+  pub both_fresh : (o s : List ℕ) (layout : Layout) (start count low₁ high₁ low₂ high₂ : ℕ) (t₀ t₁ t t₂ : Table) (a ab b ba : Result)
+      (r : Res (Unit {0}) Refusal) → Sound s count t → EditedTwice o s layout start count low₁ high₁ low₂ high₂ t₀ t₁ t
+      → Panes s layout start count low₁ high₁ low₂ high₂ t a ab b ba → ReadFunctions s layout start count t₀ r t₂ → BothFresh r t₂ a ab b ba
+  pub mended : (o s s' : List ℕ) (layout : Layout) (start count low₁ high₁ low₂ high₂ k : ℕ) (t₀ t₁ t t₂ t₃ u : Table)
+      (r : Res (Unit {0}) Refusal) (q : Res ℕ Refusal) → Sound s count t → EditedTwice o s layout start count low₁ high₁ low₂ high₂ t₀ t₁ t
+      → RefreshFunctions s layout start count low₂ high₂ t (Ok k) u → Same s s' low₁ high₁ → ((i : ℕ) → get_or s' i 0 < 256)
       → ReadFunctions s' layout start count t₀ r t₂ → RefreshFunctions s' layout start count low₁ high₁ u q t₃ → AsFresh r q u t₂ t₃
   pub judged : (g : Given) (r : Bundle) → says_bundle r ≡ check_bundle g → Judges g r

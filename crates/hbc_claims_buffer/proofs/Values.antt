@@ -18,7 +18,7 @@ use Rattle.hbc_rows.specs.Rows.{entry_at, filled}
 use Rattle.hbc_rows.proofs.Laws.{filled_length}
 use Rattle.hbc_rows.proofs.RowsAt.{filled_at, filled_past}
 use Rattle.hbc_buffer_literal.specs.Literal.{width_of, literal_of, kind_of}
-use Rattle.hbc_buffer.specs.declared.Series.TheVariants as series
+use Rattle.std.specs.Prelude.{Ok}
 use Rattle.hbc_buffer.specs.Series.{Run, run_of, run_at, step, placed, after, value_at, kind_at, payload_at, used_of, series_answer, ReadSeries}
 use Rattle.hbc_buffer.proofs.Exits.{apart}
 use Rattle.hbc_claims_law.proofs.Tests.{past}
@@ -118,7 +118,7 @@ behind : (f : ℕ → ℕ) (n : ℕ) (t : List ℕ) → Behind n t (filled f n t
 unfolding entry_at
 behind f n t = record { rest = filled_past f t n; long = filled_length f t n }
 
-module _ (s : List ℕ) (offset count : ℕ) (ks ps : List ℕ) (n : ℕ) (ks' ps' : List ℕ) (v : ReadSeries s offset count ks ps (series.Used n) ks' ps') where
+module _ (s : List ℕ) (offset count : ℕ) (ks ps : List ℕ) (n : ℕ) (ks' ps' : List ℕ) (v : ReadSeries s offset count ks ps (Ok n) ks' ps') where
   -- no values use no bytes
   pub series_none : count ≡ 0 → n ≡ 0
   series_none z = sym (used_none s offset count (length ks) (length ps) n (rw z) (sym v.says))

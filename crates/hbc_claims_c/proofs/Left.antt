@@ -12,13 +12,13 @@ use borrow.Author.Tests.{ltb-false}
 use Rattle.hbc_bits.specs.Bits.{field}
 use Rattle.hbc_io.specs.Outcome.{Outcome, got, refused, valued, cursor_at}
 use Rattle.hbc_io.specs.Answer.{Answer, gives, refuses, told}
-use Rattle.hbc_io.specs.Answers.{says_moved}
+use Rattle.std.specs.Prelude.{Option, Some, None, Result, Ok, Err}
+use Rattle.hbc_io.specs.Answers.{answered, says_moved}
 use Rattle.hbc_io.specs.Lends.{Lends}
 use Rattle.hbc_io.specs.Plain.{plain_at, bytes_at, seek_to, align_to}
 use Rattle.hbc_io.specs.declared.Cursor.{Cursor}
 use Rattle.hbc_io.specs.declared.Refusal.{Refusal}
-use Rattle.hbc_io.specs.declared.Moved.{Moved}
-use Rattle.hbc_io.specs.declared.Moved.TheVariants as moved
+use Rattle.hbc_io.specs.declared.Stopped.{Stopped as Left}
 use Rattle.hbc_io.specs.declared.Span.{Span}
 use Rattle.hbc_io.proofs.Reading.{valued_refused}
 use Rattle.hbc_io_leb.specs.Leb.{leb_bytes}
@@ -38,17 +38,18 @@ use Rattle.hbc_table_strings.specs.declared.Mode.{Mode}
 use Rattle.hbc_table_strings.specs.Strings.{lesser}
 use Rattle.hbc_buffer_literal.specs.declared.Literal.{Literal}
 use Rattle.hbc_buffer_literal.specs.Literal.{literal_at}
-use Rattle.hbc_buffer.specs.Series.{says_series, series_answer}
+use Rattle.hbc_buffer.specs.Series.{series_answer}
 use Rattle.hbc_buffer.proofs.Exits.{apart}
-use Rattle.hbc_buffer_object.specs.Object.{named, object_of, says_object}
-use Rattle.hbc_parsing_handlers.specs.declared.Why.{Why}
-use Rattle.hbc_parsing_handlers.specs.declared.Why.TheVariants as w
+use Rattle.hbc_buffer_object.specs.declared.Object.{Object}
+use Rattle.hbc_buffer_object.specs.Object.{named, object_answer}
 use Rattle.hbc_parsing_handlers.specs.Why.{why_answer}
+use Rattle.hbc_parsing_handlers.specs.declared.Reason.{Reason}
+use Rattle.hbc_parsing_handlers.specs.declared.Table.{Table as Triples}
 use Rattle.hbc_parsing_sections.specs.declared.Sections.{Sections}
 use Rattle.hbc_io.proofs.Exits.{not_given}
-use Rattle.hbc_debug.specs.Debug.{Tables, says_debug}
-use Rattle.hbc_debug.specs.declared.Debugged.{Debugged}
-use Rattle.hbc_debug.specs.declared.Debugged.TheVariants as debugged
+use Rattle.hbc_debug.specs.Debug.{Tables}
+use Rattle.hbc_debug.specs.declared.Counts.{Counts}
+use Rattle.hbc_debug_parts.specs.declared.Marked.{Marked as Exact}
 use Rattle.hbc_c_code.specs.Code.{code_of, code_in, always, value_in, truth}
 use Rattle.hbc_c_code.specs.Told.{ToldValue, Moves, Reads}
 use Rattle.hbc_c_code.proofs.Tolds.{left}
@@ -68,12 +69,11 @@ use Rattle.hbc_claims_table.proofs.Strings.{decoded_count}
 use Rattle.hbc_claims_text.proofs.Row.{of_row, puts_row}
 use Rattle.hbc_text.specs.StringText.{string_text}
 use Rattle.hbc_c_text.specs.Text.{ToldText, ToldStringsJson}
-use Rattle.hbc_clean.specs.declared.Bundle.{Bundle}
-use Rattle.hbc_clean.specs.declared.Bundle.TheVariants as bundle
-use Rattle.hbc_clean.specs.Bundle.{Given, given, says_bundle, check_bundle}
+use Rattle.hbc_clean.specs.Bundle.{Given, given, Bundle, says_bundle, check_bundle}
 use Rattle.hbc_claims_clean.proofs.Judging.{judges}
 use Rattle.hbc_c_clean.specs.Clean.{rule_of, place_left, BundleTold, ToldBundle}
 use Rattle.hbc_claims_buffer.proofs.Refused.{literal_left}
+use Rattle.hbc_claims_buffer.proofs.Parts.{gave}
 use Rattle.hbc_claims_buffer.proofs.Used.{used_small}
 
 -- ---- the cursor layer
@@ -196,10 +196,10 @@ hbc_ground n s start i before h = by_layout (λ l. ground_kept (function_ground 
 
 -- hbc_read_u32_table (width 1), hbc_read_pair_table (width 2)
 module _ (width : ℕ) (s : List ℕ) (at count : ℕ) (t : List ℕ) {r at' : ℕ} {t' : List ℕ} (h : r ≡ 0 → ⊥) where
-  by_table : (m : Moved) → ReadTable width s (cursor_at at) count t m t' → Moves (says_moved m) r at' → (at' ≡ at) × (t' ≡ t)
-  by_table (moved.To n) v m = absurd (h m.says)
-  by_table (moved.Refused k n) v m =
-      let z = table_left width s (cursor_at at) count t t' k n v in
+  by_table : (m : Result Cursor Left) → ReadTable width s (cursor_at at) count t m t' → Moves (says_moved m) r at' → (at' ≡ at) × (t' ≡ t)
+  by_table (Ok n) v m = absurd (h m.says)
+  by_table (Err e) v m =
+      let z = table_left width s (cursor_at at) count t t' e.refusal e.cursor v in
       (m.moves ∙ ap (λ (c : Cursor). c.at) z.1, z.0)
 
   pub hbc_table : ToldTable width s at count t r at' t' → (at' ≡ at) × (t' ≡ t)
@@ -242,34 +242,25 @@ hbc_literal tag s at h t = by_literal (field 4 3 tag) s at (literal_at (field 4 
 
 pub hbc_series : (s : List ℕ) (offset count : ℕ) (ks ps : List ℕ) {r : ℕ} {ks' ps' : List ℕ} → 2 ^ 32 ≤ r → ToldSeries s offset count ks ps r ks' ps'
     → (ks' ≡ ks) × (ps' ≡ ps)
-hbc_series s offset count ks ps {r} {ks'} {ps'} h v = by (says_series v.answer) refl
+hbc_series s offset count ks ps {r} {ks'} {ps'} h v = by (answered v.answer) refl
   where
-    by : (x : Answer ℕ) → says_series v.answer ≡ x → (ks' ≡ ks) × (ps' ≡ ps)
+    by : (x : Answer ℕ) → answered v.answer ≡ x → (ks' ≡ ks) × (ps' ≡ ps)
     by (gives n) e =
         let k = used_small s offset count (length ks) (length ps) n (sym v.promised.says ∙ e) in
         let q : r ≡ n = v.says ∙ ap (code_in (λ m. m)) e in
         absurd (omega arith)
     by (refuses k) e = apart (rw e at v.promised.leaves)
 
--- an object tells what its series does
-object_of_lem : (b : Bool) (offset count n : ℕ) (a : Answer ℕ) → says_object (object_of b offset count a) ≡ gives n → 0 < n → a ≡ gives n
-object_of_lem b offset count n (gives m) e h = e
-object_of_lem b offset count n (refuses k) e h = by (eqb k.number 0) e
-  where
-    by : (c : Bool) → cond c (gives 0) (refuses k) ≡ gives n → refuses k ≡ gives n
-    by true f = let z : 0 ≡ n = cc in absurd (omega arith)
-    by false f = f
-
 pub hbc_object : (keys values : List ℕ) (n offset count : ℕ) (ks ps : List ℕ) {r : ℕ} {ks' ps' : List ℕ} → 2 ^ 32 ≤ r
     → ToldObject keys values n offset count ks ps r ks' ps' → (ks' ≡ ks) × (ps' ≡ ps)
-hbc_object keys values n offset count ks ps {r} {ks'} {ps'} h v = by (says_object v.answer) refl
+hbc_object keys values n offset count ks ps {r} {ks'} {ps'} h v = by (answered v.answer) refl
   where
-    by : (x : Answer ℕ) → says_object v.answer ≡ x → (ks' ≡ ks) × (ps' ≡ ps)
-    by (gives m) e =
+    by : (x : Answer Object) → answered v.answer ≡ x → (ks' ≡ ks) × (ps' ≡ ps)
+    by (gives o) e =
         let s = named (yes_of n) keys values in
-        let q : r ≡ m = v.says ∙ ap (code_in (λ j. j)) e in
-        let o = object_of_lem (yes_of n) offset count m (series_answer s offset count (length ks) (length ps)) (sym (ap says_object v.promised.says) ∙ e) (omega arith) in
-        let k = used_small s offset count (length ks) (length ps) m o in
+        let q : r ≡ o.len = v.says ∙ ap (code_in (λ (p : Object). p.len)) e in
+        let a = gave (yes_of n) offset count o (series_answer s offset count (length ks) (length ps)) (sym e ∙ v.promised.says) in
+        let k = used_small s offset count (length ks) (length ps) o.len a.0 in
         absurd (omega arith)
     by (refuses k) e = apart (rw e at v.promised.leaves)
 
@@ -294,18 +285,18 @@ pub hbc_strings_json : (s rows : List ℕ) (count : ℕ) (before : List ℕ) {le
 hbc_strings_json s rows count before h = value_kept (λ a k e. e) h
 
 -- told in numbers or not, it is refused in the same way
-debug_refused : (a : Debugged) (k : Refusal) → says_lent a ≡ refuses k → says_debug a ≡ refuses k
-debug_refused (debugged.Read n x) k e = absurd (not_given (sym e))
-debug_refused (debugged.Refused r) k e = cc
+debug_refused : (a : Result (Exact Counts) Refusal) (k : Refusal) → says_lent a ≡ refuses k → answered a ≡ refuses k
+debug_refused (Ok n) k e = absurd (not_given (sym e))
+debug_refused (Err r) k e = cc
 
 pub hbc_debug : (file : List ℕ) (offset : ℕ) (before : Tables) (held : Numbers) {r : ℕ} {numbers : Numbers} {after : Tables} → (r ≡ 0 → ⊥)
     → ToldDebug file offset before held r after numbers → (after ≡ before) × (numbers ≡ held)
 hbc_debug file offset before held h = value_kept debug_refused h
 
 -- hbc_why_no_handlers: also where it tells a reason
-why_kept : (a : Answer Why) (n : ℕ) → (code_in why_number a ≡ 0 → ⊥) → handlers_in a n ≡ n
-why_kept (gives (w.Shown t)) n h = absurd (h refl)
-why_kept (gives (w.Hidden x)) n h = refl
+why_kept : (a : Answer (Result Triples Reason)) (n : ℕ) → (code_in why_number a ≡ 0 → ⊥) → handlers_in a n ≡ n
+why_kept (gives (Ok t)) n h = absurd (h refl)
+why_kept (gives (Err x)) n h = refl
 why_kept (refuses k) n h = refl
 
 pub hbc_why : (s functions : List ℕ) (id n : ℕ) {r n' : ℕ} → (r ≡ 0 → ⊥) → ToldWhy s functions id n r n' → n' ≡ n
@@ -325,9 +316,9 @@ hbc_sections s start regexps storage cjs given sources before h v =
 
 module _ (g : Given) {before r after : ℕ} (big : 4294967296 ≤ r) where
   bundle_by : (b : Bundle) → says_bundle b ≡ check_bundle g → r ≡ code_in rule_of (says_bundle b) → after ≡ place_left (says_bundle b) before → after ≡ before
-  bundle_by bundle.Clean e d f = f
-  bundle_by (bundle.Broken k p) e d f = let z = ((judges g (bundle.Broken k p) e).broken k p refl).number.1 in absurd (omega (arith, z, d, big))
-  bundle_by (bundle.Refused x) e d f = f
+  bundle_by (Ok None) e d f = f
+  bundle_by (Ok (Some b)) e d f = let z = ((judges g (Ok (Some b)) e).broken b refl).number.1 in absurd (omega (arith, z, d, big))
+  bundle_by (Err x) e d f = f
 
   bundle_told : BundleTold g before r after → after ≡ before
   bundle_told t = bundle_by t.answer t.promised.is t.says t.promised.left

@@ -6,20 +6,15 @@ use Rattle.hbc_io.specs.Outcome.{Outcome}
 use Rattle.hbc_io.specs.Answer.{Answer}
 use Rattle.hbc_io.specs.declared.Span.{Span}
 use Rattle.hbc_io.proofs.Exits.{alone}
-use Rattle.hbc_io.proofs.Alone.{one_moved}
+use Rattle.hbc_io.proofs.Alone.{one_moved, one_answer}
 use Rattle.hbc_c_code.specs.Told.{Moves, Reads}
 use Rattle.hbc_c_code.proofs.Tolds as told
 use Rattle.hbc_c_io.specs.Io.{ReadsSpan, Marked}
 use Rattle.hbc_c_function.proofs.ByLayouts.{alone_by}
 use Rattle.hbc_claims_law.proofs.Law.{same}
-use Rattle.hbc_claims_function.proofs.Unique.{one_reading, one_refreshed, one_wrote, table_parts}
-use Rattle.hbc_table_strings.proofs.Alone.{one_decoded}
-use Rattle.hbc_text_forms.proofs.Alone.{one_text}
-use Rattle.hbc_claims_buffer.proofs.Unique.{one_series, both}
-use Rattle.hbc_claims_parsing.proofs.Unique.{one_listed}
-use Rattle.hbc_debug.proofs.Alone.{one_debugged}
-use Rattle.hbc_clean.specs.declared.Bundle.{Bundle}
-use Rattle.hbc_clean.specs.Bundle.{Given, Verdict}
+use Rattle.hbc_claims_function.proofs.Unique.{table_parts}
+use Rattle.hbc_claims_buffer.proofs.Unique.{both}
+use Rattle.hbc_clean.specs.Bundle.{Given, Bundle, Verdict}
 use Rattle.hbc_c_clean.specs.Clean.{Placed, place_left}
 use Rattle.hbc_claims_clean.proofs.Unique.{one_bundle}
 use Rattle.hbc_claims_c.specs.Unique.{Unique}
@@ -51,6 +46,8 @@ one_placed {before = before} a b p q =
 pub unique : Unique
 unique = record {
   code = λ k a r q s u. same;
+  refused = λ k a r q s u e f. (same e.0 f.0, same e.1 f.1);
+  moved = λ k a r q s u. moves_one;
   hbc_bits = λ k a r q s u. same;
   hbc_remaining = λ k a r q s u. same;
   hbc_seek = λ k a r q s u. moves_one;
@@ -67,28 +64,28 @@ unique = record {
   hbc_read_bytes = λ k a r q s u. span_one;
   hbc_read_cstring = λ k a r q s u. span_one;
   hbc_read_length_prefixed_string = (λ k a r q s u e f. span_one e.promised f.promised, λ k a r q s u. mark_one);
-  hbc_read_functions = λ k a r q s u v w. table_parts (alone_by (λ l. told.alone (λ x y. alone one_reading)) v w);
-  hbc_refresh_functions = λ k a r q s u v w. table_parts (alone_by (λ l. told.alone (λ x y. alone one_refreshed)) v w);
-  hbc_write_functions = λ k a r q s u. alone_by (λ l. told.alone (λ x y. alone one_wrote));
+  hbc_read_functions = λ k a r q s u v w. table_parts (alone_by (λ l. told.alone (λ x y. alone one_answer)) v w);
+  hbc_refresh_functions = λ k a r q s u v w. table_parts (alone_by (λ l. told.alone (λ x y. alone one_answer)) v w);
+  hbc_write_functions = λ k a r q s u. alone_by (λ l. told.alone (λ x y. alone one_answer));
   hbc_read_function = λ k a r q s u. alone_by (λ l. told.alone (λ x y. alone (λ v w e. e)));
   hbc_function_ground = λ k a r q s u. alone_by (λ l v w. (same v.says w.says, same v.holds w.holds));
   hbc_function_meets = λ k a r q s u e f. (alone_by (λ l v w. (same v w, refl)) e f).0;
   hbc_read_u32_table = λ k a r q s u. told.from_alone (λ x y. alone one_moved);
   hbc_read_pair_table = λ k a r q s u. told.from_alone (λ x y. alone one_moved);
-  hbc_decode_strings = λ k a r q s u. told.alone (λ x y. alone one_decoded);
-  hbc_decode_strings_hermes = λ k a r q s u. told.alone (λ x y. alone one_decoded);
+  hbc_decode_strings = λ k a r q s u. told.alone (λ x y. alone one_answer);
+  hbc_decode_strings_hermes = λ k a r q s u. told.alone (λ x y. alone one_answer);
   hbc_string_bytes = (λ k a r q s u e f. same e.starts f.starts, λ k a r q s u e f. same e.lasts f.lasts);
-  hbc_string_text = λ k a r q s u. told.alone (λ x y. alone one_text);
-  hbc_strings_json = λ k a r q s u. told.value_alone (λ x y. alone one_text);
+  hbc_string_text = λ k a r q s u. told.alone (λ x y. alone one_answer);
+  hbc_strings_json = λ k a r q s u. told.value_alone (λ x y. alone one_answer);
   hbc_read_literal = (
     λ k a r q s u e f. let m = moves_one e.tells f.tells in (m.0, m.1, same e.kind_left f.kind_left, same e.number_left f.number_left),
     λ k a r q s u e f. same e.word_left f.word_left,
   );
-  hbc_read_series = λ k a r q s u e f. both (told.alone (λ x y. alone one_series) e f);
-  hbc_read_object = λ k a r q s u e f. both (told.alone (λ x y. alone (λ v w h. h)) e f);
-  hbc_read_handlers = λ k a r q s u. told.value_alone (λ x y. alone one_listed);
+  hbc_read_series = λ k a r q s u e f. both (told.alone (λ x y. alone one_answer) e f);
+  hbc_read_object = λ k a r q s u e f. both (told.alone (λ x y. alone one_answer) e f);
+  hbc_read_handlers = λ k a r q s u. told.value_alone (λ x y. alone one_answer);
   hbc_why_no_handlers = λ k a r q s u e f. (same e.says f.says, same e.leaves f.leaves);
   hbc_trailing_sections = λ k a r q s u e f. (same e.says f.says, same e.leaves f.leaves);
-  hbc_read_debug = λ k a r q s u. told.value_alone (λ x y. alone one_debugged);
+  hbc_read_debug = λ k a r q s u. told.value_alone (λ x y. alone one_answer);
   hbc_check_bundle = λ k a r q s u. alone_by (λ l. told.alone one_placed);
 }

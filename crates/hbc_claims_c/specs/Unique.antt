@@ -1,10 +1,12 @@
 -- docs/FORMAT.md, section 1.6: each exported call's contract, as the checker has it, leaves one answer, and one value for every number and word that
--- was lent, in the order of its parameters; and so does `code`, by which they tell a refusal.
+-- was lent, in the order of its parameters; and so do `code`, by which they tell a refusal, `refused` and `moved`, by which the cursor comes back.
 use Rattle.hbc_debug.specs.Debug.{tables}
 use Rattle.hbc_c_function.specs.Function.{places}
 use Rattle.hbc_c_debug.specs.Debug.{counts, lent}
 use Rattle.hbc_claims_law.specs.Law.{One, Words, Both, Both2, Both3}
 use Rattle.hbc_c_code.proofs.code.Reads as of_code
+use Rattle.hbc_c_code.proofs.refused.Reads as of_refused
+use Rattle.hbc_c_code.proofs.moved.Reads as of_moved
 use Rattle.hbc_c.proofs.io.hbc_bits.Reads as of_bits
 use Rattle.hbc_c.proofs.io.hbc_remaining.Reads as of_remaining
 use Rattle.hbc_c.proofs.io.hbc_seek.Reads as of_seek
@@ -46,6 +48,8 @@ use Rattle.hbc_c.proofs.clean.hbc_check_bundle.Reads as of_check_bundle
 -- the calls by name
 pub record Unique : Type 0 where
   pub code : One of_code.Learnt
+  pub refused : Both of_refused.Learnt (λ s. s.1.0.now)
+  pub moved : Both of_moved.Learnt (λ s. s.1.0.now)
   pub hbc_bits : One of_bits.Learnt
   pub hbc_remaining : One of_remaining.Learnt
   pub hbc_seek : Both of_seek.Learnt (λ s. s.1.0.now)

@@ -27,10 +27,9 @@ use Rattle.hbc_buffer.specs.Series.{series_answer}
 use Rattle.hbc_lowest.specs.Lowest.{lowest_of}
 use Rattle.hbc_lowest.proofs.Laws.{Is, None, is_lowest, lowest_none, truth_clash}
 use Rattle.hbc_clean_series.specs.Series.{offset_of, count_of, read_series, read_all}
-use Rattle.hbc_clean.specs.declared.Bundle.{Bundle}
-use Rattle.hbc_clean.specs.declared.Bundle.TheVariants as bundle
+use Rattle.std.specs.Prelude as prelude
 use Rattle.hbc_clean.specs.Strings.{run_places, read_strings}
-use Rattle.hbc_clean.specs.Bundle.{Given, Verdict, clean, broken, strings_of, series_of, large, runs, valid, full, known, rule, verdict, check_bundle, says_bundle}
+use Rattle.hbc_clean.specs.Bundle.{Bundle, number_of, Given, Verdict, clean, broken, strings_of, series_of, large, runs, valid, full, known, rule, verdict, check_bundle, says_bundle}
 use Rattle.hbc_clean.proofs.Judging.{read_is}
 use Rattle.hbc_clean.proofs.Verdicts.{all_read}
 use Rattle.hbc_claims_clean.specs.Rules.{LargeAt, SharesWith, end_of, BreaksLarge, LargeTidy, BreaksRuns, RunsTidy, BreaksValid, StringsValid, buffer_in, BreaksEmpty, SeriesFull, Asked, kind_in, payload_in, BreaksString, StringsKnown, Clean}
@@ -470,9 +469,9 @@ module _ (g : Given) where
   judges r e = record {
     clean = record {
       to = λ c. let x = by_given clean (sym e ∙ ap says_bundle c) in (accepted x, clean_to x.same);
-      from = λ a t. one_bundle r bundle.Clean (e ∙ accepted_from a ∙ ap gives (clean_from t));
+      from = λ a t. one_bundle r (prelude.Ok prelude.None) (e ∙ accepted_from a ∙ ap gives (clean_from t));
     };
-    broken = λ k place c. let x = by_given (broken k place) (sym e ∙ ap says_bundle c) in broken_truly (accepted x) k place x.same;
+    broken = λ b c. let x = by_given (broken (number_of b.rule) b.place) (sym e ∙ ap says_bundle c) in broken_truly (accepted x) (number_of b.rule) b.place x.same;
     refused = λ x c. refused_first (sym e ∙ ap says_bundle c);
   }
     where

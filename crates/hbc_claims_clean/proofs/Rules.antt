@@ -4,6 +4,7 @@ use mathlib.Core.Path.{◌≡◌, refl, sym, ap, ◌∙◌, subst}
 use mathlib.Core.Logic.{◌⊎◌, inl, inr}
 use mathlib.Core.Bool.{Bool, true, false, cond, not}
 use mathlib.Core.List.{List}
+use Rattle.std.specs.Prelude.{Option, Some, None}
 use native.Mathlib.Omega.{arith}
 use lib.ListN.{length}
 use lib.Dec.{ltb, leb, eqb}
@@ -41,26 +42,26 @@ unfolding overlap
 overlap_by n p q b s = lt-ltb (max p q) (min (p + n) (q + n)) (omega (arith, s.from, s.to, s.low_on, s.before_high))
 
 module _ (g : Given) where
-  abbrev at : ℕ → Ground
+  abbrev at : ℕ → Option Ground
   at i = ground_at g.file g.layout g.start i
 
   abbrev n : ℕ
   n = large_of g.layout
 
   -- the tests, of grounds that are known
-  early_of : (i : ℕ) (x : Ground) → i < g.count → at i ≡ x → early (end_of g) x ≡ true → BreaksLarge g i
+  early_of : (i : ℕ) (x : Option Ground) → i < g.count → at i ≡ x → early (end_of g) x ≡ true → BreaksLarge g i
   unfolding early
-  early_of i ground.None l e h = absurd (truth_clash h refl)
-  early_of i (ground.Inline a) l e h = absurd (truth_clash h refl)
-  early_of i (ground.Large a p) l e h = record { place = p; large = record { low = l; own = a; is = e }; why = inl (ltb-true p (end_of g) h) }
+  early_of i None l e h = absurd (truth_clash h refl)
+  early_of i (Some (ground.Inline a)) l e h = absurd (truth_clash h refl)
+  early_of i (Some (ground.Large a p)) l e h = record { place = p; large = record { low = l; own = a; is = e }; why = inl (ltb-true p (end_of g) h) }
 
-  shares_of : (i j : ℕ) (x y : Ground) → i < g.count → j < g.count → (i ≡ j → ⊥) → at i ≡ x → at j ≡ y → shares n x y ≡ true → BreaksLarge g i
+  shares_of : (i j : ℕ) (x y : Option Ground) → i < g.count → j < g.count → (i ≡ j → ⊥) → at i ≡ x → at j ≡ y → shares n x y ≡ true → BreaksLarge g i
   unfolding shares
-  shares_of i j ground.None y l m d e f h = absurd (truth_clash h refl)
-  shares_of i j (ground.Inline a) y l m d e f h = absurd (truth_clash h refl)
-  shares_of i j (ground.Large a p) ground.None l m d e f h = absurd (truth_clash h refl)
-  shares_of i j (ground.Large a p) (ground.Inline b) l m d e f h = absurd (truth_clash h refl)
-  shares_of i j (ground.Large a p) (ground.Large b q) l m d e f h = record {
+  shares_of i j None y l m d e f h = absurd (truth_clash h refl)
+  shares_of i j (Some (ground.Inline a)) y l m d e f h = absurd (truth_clash h refl)
+  shares_of i j (Some (ground.Large a p)) None l m d e f h = absurd (truth_clash h refl)
+  shares_of i j (Some (ground.Large a p)) (Some (ground.Inline b)) l m d e f h = absurd (truth_clash h refl)
+  shares_of i j (Some (ground.Large a p)) (Some (ground.Large b q)) l m d e f h = record {
     place = p;
     large = record { low = l; own = a; is = e };
     why = inr (record { other = j; apart = d; place = q; large = record { low = m; own = b; is = f }; byte = max p q; in_both = byte_of n p q h });
@@ -88,7 +89,7 @@ module _ (g : Given) where
   either_true true e = refl
   either_true false e = e
 
-  large_why : (i p a : ℕ) → at i ≡ ground.Large a p → (p < end_of g) ⊎ SharesWith g i p → large g i ≡ true
+  large_why : (i p a : ℕ) → at i ≡ Some (ground.Large a p) → (p < end_of g) ⊎ SharesWith g i p → large g i ≡ true
   unfolding breaks_large early shares
   large_why i p a e (inl h) = rw (e, lt-ltb p (end_of g) h)
   large_why i p a e (inr s) =

@@ -1,5 +1,5 @@
 -- docs/FORMAT.md, section 12.7: what the answer of the profile says of what was given.
-use Rattle.std.specs.Prelude.{ℕ, ◌+◌, ◌*◌, ◌≤◌, ◌<◌, ◌≡◌, ◌⊎◌, List, length}
+use Rattle.std.specs.Prelude.{ℕ, ◌+◌, ◌*◌, ◌≤◌, ◌<◌, ◌≡◌, ◌⊎◌, List, Some, None, Ok, Err, length}
 use Rattle.hbc_io.specs.declared.Refusal.{Refusal}
 use Rattle.hbc_io.specs.Answer.{gives, refuses}
 use Rattle.hbc_rows.specs.Rows.{rows}
@@ -10,9 +10,8 @@ use Rattle.hbc_table_strings.specs.Row.{string_width}
 use Rattle.hbc_table_strings.specs.Strings.{decode_answer}
 use Rattle.hbc_buffer.specs.Series.{series_answer}
 use Rattle.hbc_clean_series.specs.Series.{offset_of, count_of}
-use Rattle.hbc_clean.specs.declared.Bundle.{Bundle}
-use Rattle.hbc_clean.specs.declared.Bundle.TheVariants as bundle
-use Rattle.hbc_clean.specs.Bundle.{Given, strings_of, series_of}
+use Rattle.hbc_clean.specs.declared.Broken.{Broken}
+use Rattle.hbc_clean.specs.Bundle.{Bundle, number_of, Given, strings_of, series_of}
 use Rattle.hbc_claims_clean.specs.Rules.{BreaksLarge, LargeTidy, BreaksRuns, RunsTidy, BreaksValid, StringsValid, BreaksEmpty, SeriesFull, BreaksString}
 use Rattle.hbc_claims_clean.specs.Rules.{buffer_in, Clean}
 
@@ -62,8 +61,8 @@ RefusedFirst g x = HeadersRefused g x ⊎ ((HeadersRead g × StringsRefused g x)
 
 -- clean exactly when nothing is refused and all five rules hold
 pub record CleanExactly (g : Given) (r : Bundle) : Type 0 where
-  pub to : r ≡ bundle.Clean → Accepted g × Clean g
-  pub from : Accepted g → Clean g → r ≡ bundle.Clean
+  pub to : r ≡ Ok None → Accepted g × Clean g
+  pub from : Accepted g → Clean g → r ≡ Ok None
 
 -- a place breaks a rule, and no lower one does
 pub record Lowest (Breaks : ℕ → Type 0) (place : ℕ) : Type 0 where
@@ -86,5 +85,5 @@ pub record BrokenTruly (g : Given) (k place : ℕ) : Type 0 where
 
 pub record Judges (g : Given) (r : Bundle) : Type 0 where
   pub clean : CleanExactly g r
-  pub broken : (k place : ℕ) → r ≡ bundle.Broken k place → BrokenTruly g k place
-  pub refused : (x : Refusal) → r ≡ bundle.Refused x → RefusedFirst g x
+  pub broken : (b : Broken) → r ≡ Ok (Some b) → BrokenTruly g (number_of b.rule) b.place
+  pub refused : (x : Refusal) → r ≡ Err x → RefusedFirst g x

@@ -1,5 +1,5 @@
 -- docs/FORMAT.md, sections 12.2 to 12.6: the five rules as statements: what breaks one at a place, and what it means that one holds.
-use Rattle.std.specs.Prelude.{ℕ, ◌+◌, ◌≤◌, ◌<◌, ◌≡◌, ◌⊎◌, List, length}
+use Rattle.std.specs.Prelude.{ℕ, ◌+◌, ◌≤◌, ◌<◌, ◌≡◌, ◌⊎◌, List, Some, length}
 use Rattle.hbc_io.specs.Outcome.{got, cursor_at}
 use Rattle.hbc_io.specs.declared.Cursor.{Cursor}
 use Rattle.hbc_function_record.specs.Record.{large_of}
@@ -20,7 +20,7 @@ use Rattle.hbc_claims_law.specs.Terms.{Shared}
 pub record LargeAt (g : Given) (i p : ℕ) : Type 0 where
   pub low : i < g.count
   pub own : ℕ
-  pub is : ground_at g.file g.layout g.start i ≡ ground.Large own p
+  pub is : ground_at g.file g.layout g.start i ≡ Some (ground.Large own p)
 
 -- byte b is in the large header at p and in the one at q
 abbrev pub InBoth : Given → ℕ → ℕ → ℕ → Type 0

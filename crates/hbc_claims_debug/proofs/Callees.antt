@@ -4,33 +4,34 @@ use mathlib.Core.Bool.{Bool, true, false, cond}
 use mathlib.Core.List.{List, [], ◌∷◌, ◌++◌}
 use Prim.Native.Nat.{ℕ, zero, suc, ◌≤◌, ◌<◌}
 use native.Mathlib.Omega.{arith}
+use Rattle.std.specs.Prelude.{Option, None, Some}
 use borrow.Author.Tests.{eqb-true, eqb-false, eq-eqb}
 use lib.Dec.{eqb}
 use Rattle.hbc_debug_pairs.specs.Pairs.{addresses}
 use Rattle.hbc_debug_pairs.specs.declared.Pair.{Pair}
-use Rattle.hbc_debug_rising.specs.Rising.{Found, none, name, Callee, callee_if, rising_below, last_name, after1}
+use Rattle.hbc_debug_rising.specs.Rising.{Found, none, name, Callee, callee_if, rising_below, if_known, last_name, after1}
 use Rattle.hbc_debug_callees.specs.Callees.{callees_of, pairs_of}
 use Rattle.hbc_claims_law.specs.Terms.{Either, left, right}
 use Rattle.hbc_claims_debug.specs.Callees.{Between, Row, Silent, Names, Last, Rows, CalleesRead}
 
 -- ---- the last name
 
-never : {P : Type 0} → false ≡ true → P
-never e = let z : ◌≡◌ {A = ℕ} 0 1 = cc in absurd (omega arith)
+none_some : {k : ℕ} → None ≡ Some k → ⊥
+none_some e = let z : ◌≡◌ {A = ℕ} 0 1 = cc in absurd (omega arith)
 
 silent_keeps : (a : ℕ) (f : Found) (ps : List Pair) → Silent a ps → last_name a f ps ≡ f
 unfolding last_name after1
 silent_keeps a f [] h = refl
-silent_keeps a f (p ∷ ps) h = go p.known refl (eqb p.address a) refl (silent_keeps a f ps h.1)
+silent_keeps a f (p ∷ ps) h = go p.name refl (eqb p.address a) refl (silent_keeps a f ps h.1)
   where
-    go : (b : Bool) → p.known ≡ b → (t : Bool) → eqb p.address a ≡ t → last_name a f ps ≡ f → last_name a (cond b (cond t (name p.name) f) f) ps ≡ f
-    go false u t v w = w
-    go true u false v w = w
-    go true u true v w = absurd (h.0 u (eqb-true p.address a v))
+    go : (o : Option ℕ) → p.name ≡ o → (t : Bool) → eqb p.address a ≡ t → last_name a f ps ≡ f → last_name a (if_known o t f) ps ≡ f
+    go None u t v w = w
+    go (Some k) u false v w = w
+    go (Some k) u true v w = absurd (h.0 k u (eqb-true p.address a v))
 
 named_now : (a k : ℕ) (f : Found) (p : Pair) → Names a k p → after1 a f p ≡ name k
 unfolding after1
-named_now a k f p n = rw (n.known, eq-eqb p.address a n.address, n.name)
+named_now a k f p n = rw (n.name, eq-eqb p.address a n.address)
 
 last_is : (a k : ℕ) (f : Found) (ps : List Pair) → Last a k ps → last_name a f ps ≡ name k
 unfolding last_name
@@ -38,20 +39,20 @@ last_is a k f [] h = elim h [ ]
 last_is a k f (p ∷ ps) (left h) = ap (λ (x : Found). last_name a x ps) (named_now a k f p h.0) ∙ silent_keeps a (name k) ps h.1
 last_is a k f (p ∷ ps) (right l) = last_is a k (after1 a f p) ps l
 
-same_name : (j k : ℕ) → name j ≡ name k → j ≡ k
-same_name j k e = cc
+same_name : {j k : ℕ} → name j ≡ name k → Some j ≡ Some k
+same_name e = cc
 
 is_last : (a k : ℕ) (f : Found) (ps : List Pair) → last_name a f ps ≡ name k → Either (Last a k ps) ((f ≡ name k) × Silent a ps)
 unfolding last_name after1
 is_last a k f [] e = right (e, tt)
-is_last a k f (p ∷ ps) e = go p.known refl (eqb p.address a) refl (is_last a k (cond p.known (cond (eqb p.address a) (name p.name) f) f) ps e)
+is_last a k f (p ∷ ps) e = go p.name refl (eqb p.address a) refl (is_last a k (if_known p.name (eqb p.address a) f) ps e)
   where
-    go : (b : Bool) → p.known ≡ b → (t : Bool) → eqb p.address a ≡ t
-        → Either (Last a k ps) ((cond b (cond t (name p.name) f) f ≡ name k) × Silent a ps) → Either (Last a k (p ∷ ps)) ((f ≡ name k) × Silent a (p ∷ ps))
-    go b u t v (left l) = left (right l)
-    go false u t v (right r) = right (r.0, ((λ x. never (sym u ∙ x)), r.1))
-    go true u false v (right r) = right (r.0, ((λ x y. eqb-false p.address a v y), r.1))
-    go true u true v (right r) = left (left (record { known = u; address = eqb-true p.address a v; name = same_name p.name k r.0 }, r.1))
+    go : (o : Option ℕ) → p.name ≡ o → (t : Bool) → eqb p.address a ≡ t
+        → Either (Last a k ps) ((if_known o t f ≡ name k) × Silent a ps) → Either (Last a k (p ∷ ps)) ((f ≡ name k) × Silent a (p ∷ ps))
+    go o u t v (left l) = left (right l)
+    go None u t v (right r) = right (r.0, ((λ j x y. absurd (none_some (sym u ∙ x))), r.1))
+    go (Some j) u false v (right r) = right (r.0, ((λ w x y. eqb-false p.address a v y), r.1))
+    go (Some j) u true v (right r) = left (left (record { address = eqb-true p.address a v; name = u ∙ same_name r.0 }, r.1))
 
 -- ---- the rows
 

@@ -1,4 +1,5 @@
 -- What an accepted read of the debug section leaves: each row is that of its string, scope, name or callee, and every word past the rows is as it was.
+use Rattle.std.specs.Prelude.{Ok}
 use mathlib.Core.Path.{◌≡◌, refl, sym, ap, ◌∙◌}
 use mathlib.Core.Bool.{Bool, true, false, cond}
 use mathlib.Core.List.{List, [], ◌∷◌, ◌++◌}
@@ -26,7 +27,7 @@ use Rattle.hbc_debug_rising.specs.Rising.{Callee, callee_row}
 use Rattle.hbc_debug_callees.specs.Callees.{callees_of, callee_width, callee_words}
 use Rattle.hbc_debug.specs.Debug.{Tables, Contents, contents_at, contents_in, string_count, counts_of, all_exact, room_in, fits, counts_answer, parts_given, ReadDebug}
 use Rattle.hbc_debug.specs.declared.Counts.{Counts}
-use Rattle.hbc_debug.specs.declared.Debugged.TheVariants as debugged
+use Rattle.hbc_debug_parts.specs.declared.Marked.{Marked}
 use Rattle.hbc_claims_law.specs.Terms.{Behind}
 use Rattle.hbc_claims_debug.specs.Left.{PastRows}
 
@@ -180,19 +181,19 @@ record Given (b : Contents) (t : Tables) (k : Counts) (e : Bool) : Type 0 where
   mark : e ≡ all_exact b
 
 given_by : (b : Contents) (t : Tables) (k : Counts) (x : Bool) (f : Bool) → fits (counts_of b) (room_in t) ≡ f
-    → cond {A = Answer (Counts × Bool)} f (gives (counts_of b, all_exact b)) (refused_at 4 0) ≡ gives (k, x) → Given b t k x
+    → cond {A = Answer (Marked Counts)} f (gives (record { value = counts_of b; exact = all_exact b })) (refused_at 4 0) ≡ gives (record { value = k; exact = x }) → Given b t k x
 given_by b t k x true e g =
-    let p : ◌≡◌ {A = Counts × Bool} (counts_of b, all_exact b) (k, x) = cc in
-    record { fit = fits_all (counts_of b) (room_in t) e; is = sym (ap (λ (q : Counts × Bool). q.0) p); mark = sym (ap (λ (q : Counts × Bool). q.1) p) }
+    let p : ◌≡◌ {A = Marked Counts} (record { value = counts_of b; exact = all_exact b }) (record { value = k; exact = x }) = cc in
+    record { fit = fits_all (counts_of b) (room_in t) e; is = sym (ap (λ (q : Marked Counts). q.value) p); mark = sym (ap (λ (q : Marked Counts). q.exact) p) }
 given_by b t k x false e g = absurd (not_given g)
 
-given_in : (file : List ℕ) (t : Tables) (k : Counts) (x : Bool) (a : Answer Parts) → and_then a (λ p. counts_answer (contents_in file p) t) ≡ gives (k, x)
+given_in : (file : List ℕ) (t : Tables) (k : Counts) (x : Bool) (a : Answer Parts) → and_then a (λ p. counts_answer (contents_in file p) t) ≡ gives (record { value = k; exact = x })
     → Given (contents_in file (parts_given a)) t k x
 unfolding choose
 given_in file t k x (gives p) e = given_by (contents_in file p) t k x (fits (counts_of (contents_in file p)) (room_in t)) refl e
 given_in file t k x (refuses r) e = absurd (not_given e)
 
-module _ (file : List ℕ) (offset : ℕ) (t : Tables) (k : Counts) (e : Bool) (t' : Tables) (v : ReadDebug file offset t (debugged.Read k e) t') where
+module _ (file : List ℕ) (offset : ℕ) (t : Tables) (k : Counts) (e : Bool) (t' : Tables) (v : ReadDebug file offset t (Ok (record { value = k; exact = e })) t') where
   abbrev b : Contents
   b = contents_at file offset
 

@@ -1,5 +1,5 @@
 -- docs/FORMAT.md, section 7.5: "one row an address, rising, the last one winning", as what it means of the entries: no order of looking, no algorithm.
-use Rattle.std.specs.Prelude.{◌≡◌, true, List, [], ◌∷◌, ℕ, suc, ◌≤◌, ◌<◌}
+use Rattle.std.specs.Prelude.{◌≡◌, Some, List, [], ◌∷◌, ℕ, suc, ◌≤◌, ◌<◌}
 use Rattle.hbc_debug_pairs.specs.Pairs.{addresses}
 use Rattle.hbc_debug_pairs.specs.declared.Pair.{Pair}
 use Rattle.hbc_debug_rising.specs.Rising.{Callee}
@@ -19,13 +19,12 @@ Row x (y ∷ ys) = Either (x ≡ y) (Row x ys)
 -- no entry with a known name has the address
 abbrev pub Silent : ℕ → List Pair → Type 0
 Silent a [] = Unit {0}
-Silent a (p ∷ ps) = (p.known ≡ true → p.address ≡ a → ⊥) × Silent a ps
+Silent a (p ∷ ps) = ((k : ℕ) → p.name ≡ Some k → p.address ≡ a → ⊥) × Silent a ps
 
 -- an entry with this address and this known name
 pub record Names (a k : ℕ) (p : Pair) : Type 0 where
-  pub known : p.known ≡ true
   pub address : p.address ≡ a
-  pub name : p.name ≡ k
+  pub name : p.name ≡ Some k
 
 -- the last entry with the address and a known name has the name k
 abbrev pub Last : ℕ → ℕ → List Pair → Type 0

@@ -1,13 +1,12 @@
 -- What an accepted call says of its tests, and what a refused one leaves.
+use Rattle.std.specs.Prelude.{Err}
 use Prim.Native.Nat.{ℕ}
 use mathlib.Core.Path.{◌≡◌, refl}
 use mathlib.Core.List.{List}
 use Rattle.hbc_io.specs.declared.Refusal.{Refusal}
 use Rattle.hbc_function_record.specs.declared.Layout.{Layout}
-use Rattle.hbc_function_header.specs.declared.Reading.TheVariants as reading
 use Rattle.hbc_io.specs.Answer.{Answer, gives, refuses, asked, and_then}
 use Rattle.hbc_function_header.specs.Header.{function_at, FunctionRow}
-use Rattle.hbc_function.specs.declared.Refreshed.TheVariants as refreshed
 use Rattle.hbc_function_header.specs.Meets.{meets}
 use Rattle.hbc_function_totals.specs.declared.Totals.{Totals}
 use Rattle.hbc_function.specs.Table.{scan, all, Table, read_answer, ReadFunctions}
@@ -80,12 +79,12 @@ writable rows layout start count large b e h =
 
 -- ---- a refusal leaves the table
 
-pub read_left : (s : List ℕ) (layout : Layout) (start count : ℕ) {x : Refusal} {t t' : Table} → ReadFunctions s layout start count t (reading.Refused x) t' → t' ≡ t
+pub read_left : (s : List ℕ) (layout : Layout) (start count : ℕ) {x : Refusal} {t t' : Table} → ReadFunctions s layout start count t (Err x) t' → t' ≡ t
 read_left s layout start count p = p.leaves
 
-pub was_left : (s : List ℕ) (layout : Layout) (start count low high : ℕ) {x : Refusal} {t t' : Table} → RefreshFunctions s layout start count low high t (refreshed.Refused x) t'
+pub was_left : (s : List ℕ) (layout : Layout) (start count low high : ℕ) {x : Refusal} {t t' : Table} → RefreshFunctions s layout start count low high t (Err x) t'
     → t' ≡ t
 was_left s layout start count low high p = p.leaves
 
-pub row_left : (s : List ℕ) (layout : Layout) (start i : ℕ) {x : Refusal} {t t' : List ℕ} → FunctionRow s layout start i t (reading.Refused x) t' → t' ≡ t
+pub row_left : (s : List ℕ) (layout : Layout) (start i : ℕ) {x : Refusal} {t t' : List ℕ} → FunctionRow s layout start i t (Err x) t' → t' ≡ t
 row_left s layout start i p = p.leaves

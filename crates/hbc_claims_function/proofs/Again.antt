@@ -1,4 +1,6 @@
 -- One refresh done twice, the totals being true at first: the second finds the file's own rows, and exchanges each for itself.
+use Rattle.std.specs.Prelude.{Result as Res, Ok, Err}
+use Rattle.hbc_io.specs.declared.Refusal.{Refusal}
 use Prim.Native.Nat.{ℕ, zero, suc, ◌+◌, ◌-◌, ◌*◌, ◌≤◌, ◌<◌}
 use mathlib.Core.Path.{◌≡◌, refl, ap, sym, ◌∙◌, subst}
 use mathlib.Core.List.{List}
@@ -7,6 +9,7 @@ use native.Mathlib.Omega.{arith}
 use lib.ListN.{length}
 use lib.Dec.{ltb}
 use Rattle.hbc_io.specs.Answer.{Answer, gives, and_then}
+use Rattle.hbc_io.proofs.Alone.{one_answer}
 use Rattle.hbc_io.proofs.Exits.{not_below, alone}
 use Rattle.hbc_rows.specs.Rows.{row_at}
 use Rattle.hbc_function_record.specs.declared.Layout.{Layout}
@@ -16,8 +19,6 @@ use Rattle.hbc_function_header.specs.Meets.{meets}
 use Rattle.hbc_function_totals.specs.declared.Share.{Share}
 use Rattle.hbc_function_totals.specs.declared.Totals.{Totals}
 use Rattle.hbc_function_totals.specs.Totals.{sum, totals, most, exchanged, next, kept, share_of}
-use Rattle.hbc_function.specs.declared.Refreshed.{Refreshed}
-use Rattle.hbc_function.specs.declared.Refreshed.TheVariants as refreshed
 use Rattle.hbc_function.specs.Table.{all, scan, share_by, Table}
 use Rattle.hbc_function.specs.Refresh.{kept_met, refresh_answer, RefreshFunctions}
 use Rattle.hbc_function.proofs.ByFile.{kept_scan}
@@ -29,7 +30,6 @@ use Rattle.hbc_claims_function.proofs.Accepted.{refreshable}
 use Rattle.hbc_claims_function.proofs.Tables.{rewritten}
 use Rattle.hbc_claims_function.proofs.Totals.{totals_kept, totals_moved, share_now, large_word, size_word_lem}
 use Rattle.hbc_claims_function.proofs.Refreshed.{past_tests}
-use Rattle.hbc_claims_function.proofs.Unique.{one_refreshed}
 use Rattle.hbc_claims_function.proofs.Panes.{told, accepted_twice}
 
 -- ---- one among many
@@ -83,7 +83,7 @@ module _ (chosen : ℕ → Bool) (old new : ℕ → Share) (now : Totals) where
 -- ---- the second time
 
 module _ (s : List ℕ) (layout : Layout) (start count low high : ℕ) (t : Table) (v : True t count) where
-  totals_held : (k : ℕ) (u : Table) → RefreshFunctions s layout start count low high t (refreshed.Done k) u → (i : ℕ) → i < count → meets s layout start low high i ≡ true
+  totals_held : (k : ℕ) (u : Table) → RefreshFunctions s layout start count low high t (Ok k) u → (i : ℕ) → i < count → meets s layout start low high i ≡ true
       → Held (share_of (row_at width u.rows i)) (share_by (function_at s layout start i)) u.totals
   totals_held k u p i h e =
       let w = totals_kept s layout start count low high k t u p v in let tl = w.large in let ts = w.sizes in
@@ -99,7 +99,7 @@ module _ (s : List ℕ) (layout : Layout) (start count low high : ℕ) (t : Tabl
         sizes_most = omega arith;
       }
 
-  says_again : (k : ℕ) (u : Table) → RefreshFunctions s layout start count low high t (refreshed.Done k) u → gives k ≡ refresh_answer s layout start count low high u
+  says_again : (k : ℕ) (u : Table) → RefreshFunctions s layout start count low high t (Ok k) u → gives k ≡ refresh_answer s layout start count low high u
   says_again k u p =
       let x = refreshable s layout start count low high t k (sym p.says) in
       let n = (rewritten p).behind.long in
@@ -111,11 +111,11 @@ module _ (s : List ℕ) (layout : Layout) (start count low high : ℕ) (t : Tabl
   pub twice : (a aa : Result) → Over s layout start count low high t a → Over s layout start count low high a.table aa → aa ≡ a
   twice a aa p q = let z = by a.answer refl in λ j. record { answer = z.0 j; table = z.1 j }
     where
-      by : (x : Refreshed) → a.answer ≡ x → (aa.answer ≡ a.answer) × (aa.table ≡ a.table)
-      by (refreshed.Done k) e =
+      by : (x : Res ℕ Refusal) → a.answer ≡ x → (aa.answer ≡ a.answer) × (aa.table ≡ a.table)
+      by (Ok k) e =
           let pa = told s layout start count low high t a p e in
-          let f = one_refreshed aa.answer (refreshed.Done k) (q.says ∙ sym (says_again k a.table pa)) in
+          let f = one_answer aa.answer (Ok k) (q.says ∙ sym (says_again k a.table pa)) in
           (f ∙ sym e, (accepted_twice s layout start count low high k k t a.table aa.table pa (told s layout start count low high a.table aa q f)).1)
-      by (refreshed.Refused x) e =
+      by (Err x) e =
           let l : a.table ≡ t = (told s layout start count low high t a p e).leaves in
-          alone one_refreshed (subst (λ (y : Table). Over s layout start count low high y aa) l q) p
+          alone one_answer (subst (λ (y : Table). Over s layout start count low high y aa) l q) p

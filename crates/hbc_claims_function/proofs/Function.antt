@@ -1,4 +1,6 @@
 -- A function that does not meet the span is the same in two files that are the same outside it; and one that is read has its header in the file.
+use Rattle.hbc_io.specs.declared.Reason.TheVariants as reason
+use Rattle.std.specs.Prelude.{Option, Some, None, Ok, Err}
 use Prim.Native.Nat.{ℕ, ◌+◌, ◌*◌, ◌/◌, ◌≤◌}
 use mathlib.Core.Path.{◌≡◌, refl, ap, sym, ◌∙◌}
 use mathlib.Core.List.{List}
@@ -12,15 +14,10 @@ use Rattle.hbc_io.specs.Lends.{below}
 use Rattle.hbc_bits.specs.Bits.{le_at}
 use Rattle.hbc_function_record.specs.declared.Layout.{Layout}
 use Rattle.hbc_function_record.specs.declared.Layout.TheVariants as lay
-use Rattle.hbc_function_record.specs.declared.Legacy.{Legacy}
-use Rattle.hbc_function_record.specs.declared.Modern.{Modern}
 use Rattle.hbc_function_record.specs.declared.Record.{Record}
 use Rattle.hbc_function_record.specs.declared.Record.TheVariants as rec
-use Rattle.hbc_function_record.specs.declared.Link.{Link}
-use Rattle.hbc_function_record.specs.declared.Link.TheVariants as link
 use Rattle.hbc_function_header.specs.declared.Ground.{Ground}
 use Rattle.hbc_function_header.specs.declared.Ground.TheVariants as ground
-use Rattle.hbc_function_header.specs.declared.Where.TheVariants as wh
 use Rattle.hbc_io.specs.Answer.{gives, asked}
 use Rattle.hbc_function_record.specs.Record.{size_of, large_of, inline_of, large_at, link_of, legacy_large, modern_large}
 use Rattle.hbc_function_record.specs.Row.{found_at, inline_found}
@@ -77,37 +74,37 @@ large_same a b lay.Modern12 at i v = ap rec.Modern (modern_large_lem a b at i v)
 -- ---- two files that agree on all that a function is read from
 
 -- on its own header, and on a large header that it is flagged for
-abbrev pub OnGround : List ℕ → List ℕ → Layout → Ground → Type 0
-OnGround a b layout ground.None = Unit {0}
-OnGround a b layout (ground.Inline at) = Agree a b at (at + size_of layout)
-OnGround a b layout (ground.Large at place) = Agree a b at (at + size_of layout) × Agree a b place (place + large_of layout)
+abbrev pub OnGround : List ℕ → List ℕ → Layout → Option Ground → Type 0
+OnGround a b layout None = Unit {0}
+OnGround a b layout (Some (ground.Inline at)) = Agree a b at (at + size_of layout)
+OnGround a b layout (Some (ground.Large at place)) = Agree a b at (at + size_of layout) × Agree a b place (place + large_of layout)
 
-own_agrees : (a b : List ℕ) (layout : Layout) (at : ℕ) (l : Link) → OnGround a b layout (ground_by at l) → Agree a b at (at + size_of layout)
-own_agrees a b layout at link.Own v = v
-own_agrees a b layout at (link.Large place) v = v.0
+own_agrees : (a b : List ℕ) (layout : Layout) (at : ℕ) (l : Option ℕ) → OnGround a b layout (Some (ground_by at l)) → Agree a b at (at + size_of layout)
+own_agrees a b layout at None v = v
+own_agrees a b layout at (Some place) v = v.0
 
-where-same : (a b : List ℕ) (m : ℕ) (g : Ground) → length a ≡ length b → where_of a m g ≡ where_of b m g
+where-same : (a b : List ℕ) (m : ℕ) (g : Option Ground) → length a ≡ length b → where_of a m g ≡ where_of b m g
 unfolding where_of below
-where-same a b m ground.None e = refl
-where-same a b m (ground.Inline at) e = refl
-where-same a b m (ground.Large at place) e = rw e
+where-same a b m None e = refl
+where-same a b m (Some (ground.Inline at)) e = refl
+where-same a b m (Some (ground.Large at place)) e = rw e
 
 -- what is found is the same in both
 module _ (a b : List ℕ) (layout : Layout) (at i : ℕ) (e : le_at a at (size_of layout) ≡ le_at b at (size_of layout)) where
   large_found_lem : (place : ℕ) → Agree a b place (place + large_of layout) → (past cut : Bool)
-      → found a layout at i (cond past (wh.Refused 2) (cond cut (wh.Refused 3) (wh.Large place))) ≡ found b layout at i (cond past (wh.Refused 2) (cond cut (wh.Refused 3) (wh.Large place)))
+      → found a layout at i (cond past (Err reason.PastEnd) (cond cut (Err reason.Cut) (Ok (Some place)))) ≡ found b layout at i (cond past (Err reason.PastEnd) (cond cut (Err reason.Cut) (Ok (Some place))))
   large_found_lem place v true cut = refl
   large_found_lem place v false true = refl
   large_found_lem place v false false = ap (λ (r : Record). gives (found_at place r)) (large_same a b layout place i v)
 
-  same_found : (l : Link) → OnGround a b layout (ground_by at l)
-      → found a layout at i (where_of b (large_of layout) (ground_by at l)) ≡ found b layout at i (where_of b (large_of layout) (ground_by at l))
+  same_found : (l : Option ℕ) → OnGround a b layout (Some (ground_by at l))
+      → found a layout at i (where_of b (large_of layout) (Some (ground_by at l))) ≡ found b layout at i (where_of b (large_of layout) (Some (ground_by at l)))
   unfolding where_of below
-  same_found link.Own v = ap (λ (n : ℕ). gives (inline_found layout i n)) e
-  same_found (link.Large place) v = large_found_lem place v.1 (ltb (length b) place) (ltb (length b) (place + large_of layout))
+  same_found None v = ap (λ (n : ℕ). gives (inline_found layout i n)) e
+  same_found (Some place) v = large_found_lem place v.1 (ltb (length b) place) (ltb (length b) (place + large_of layout))
 
 module _ (a b : List ℕ) (long : length a ≡ length b) (i : ℕ) (layout : Layout) where
-  same_header : (at : ℕ) (l : Link) → OnGround a b layout (ground_by at l) → le_at a at (size_of layout) ≡ le_at b at (size_of layout)
+  same_header : (at : ℕ) (l : Option ℕ) → OnGround a b layout (Some (ground_by at l)) → le_at a at (size_of layout) ≡ le_at b at (size_of layout)
   same_header at l v = same_num (own_agrees a b layout at l v) at (size_of layout) (le_refl at) (le_refl (at + size_of layout))
 
   -- by whether the header runs past the end
@@ -116,14 +113,14 @@ module _ (a b : List ℕ) (long : length a ≡ length b) (i : ℕ) (layout : Lay
   same_by at true c v = rw (long, c)
   same_by at false c v =
       let l = link_of (inline_of layout 0 (le_at b at (size_of layout))) in
-      let q : OnGround a b layout (ground_by at l) = rw c at v in
+      let q : OnGround a b layout (Some (ground_by at l)) = rw c at v in
       let e = same_header at l q in
-      let h : ground_of a layout at ≡ ground_by at l = rw (long, c, e) in
-      let k : ground_of b layout at ≡ ground_by at l = rw c in
-      ap (λ (x : Ground). found a layout at i (where_of a (large_of layout) x)) h
-      ∙ ap (found a layout at i) (where-same a b (large_of layout) (ground_by at l) long)
+      let h : ground_of a layout at ≡ Some (ground_by at l) = rw (long, c, e) in
+      let k : ground_of b layout at ≡ Some (ground_by at l) = rw c in
+      ap (λ (x : Option Ground). found a layout at i (where_of a (large_of layout) x)) h
+      ∙ ap (found a layout at i) (where-same a b (large_of layout) (Some (ground_by at l)) long)
       ∙ same_found a b layout at i e l q
-      ∙ ap (λ (x : Ground). found b layout at i (where_of b (large_of layout) x)) (sym k)
+      ∙ ap (λ (x : Option Ground). found b layout at i (where_of b (large_of layout) x)) (sym k)
 
   -- and so is what it is read from
   ground_by_lem : (at : ℕ) (cut : Bool) → ltb (length b) (at + size_of layout) ≡ cut → OnGround a b layout (ground_of b layout at) → ground_of a layout at ≡ ground_of b layout at
@@ -144,12 +141,12 @@ module _ (a b : List ℕ) (long : length a ≡ length b) (i : ℕ) (layout : Lay
 
 -- ---- and so where its ground meets neither of two spans that they differ in
 
-apart : {a b : List ℕ} {low₁ high₁ low₂ high₂ : ℕ} → SameBut a b low₁ high₁ low₂ high₂ → (layout : Layout) (g : Ground)
+apart : {a b : List ℕ} {low₁ high₁ low₂ high₂ : ℕ} → SameBut a b low₁ high₁ low₂ high₂ → (layout : Layout) (g : Option Ground)
     → ground_meets (size_of layout) (large_of layout) low₁ high₁ g ≡ false → ground_meets (size_of layout) (large_of layout) low₂ high₂ g ≡ false → OnGround a b layout g
 unfolding ground_meets
-apart v layout ground.None o u = tt
-apart v layout (ground.Inline at) o u = agrees v at (size_of layout) o u
-apart {low₁ = low₁} {high₁ = high₁} {low₂ = low₂} {high₂ = high₂} v layout (ground.Large at place) o u =
+apart v layout None o u = tt
+apart v layout (Some (ground.Inline at)) o u = agrees v at (size_of layout) o u
+apart {low₁ = low₁} {high₁ = high₁} {low₂ = low₂} {high₂ = high₂} v layout (Some (ground.Large at place)) o u =
     let n = size_of layout in let m = large_of layout in (
       agrees v at n (or_left (overlap at n low₁ high₁) (overlap place m low₁ high₁) o) (or_left (overlap at n low₂ high₂) (overlap place m low₂ high₂) u),
       agrees v place m (or_right (overlap at n low₁ high₁) (overlap place m low₁ high₁) o) (or_right (overlap at n low₂ high₂) (overlap place m low₂ high₂) u),
@@ -177,7 +174,7 @@ ends_by : (s : List ℕ) (layout : Layout) (at i : ℕ) (cut : Bool) → ltb (le
     → at + size_of layout ≤ length s
 unfolding record_at where_at ground_of where_of below
 ends_by s layout at i true c e =
-    let f : asked (found s layout at i (wh.Refused 3)) ≡ gives tt = rw c at e in
+    let f : asked (found s layout at i (Err reason.Cut)) ≡ gives tt = rw c at e in
     let z : ◌≡◌ {A = ℕ} 0 1 = cc in absurd (omega arith)
 ends_by s layout at i false c e = ltb-false _ _ c
 

@@ -1,4 +1,7 @@
 -- What is written is of the records of the rows below the count alone: two sets of rows with the same give one answer and one buffer.
+use Rattle.hbc_io.specs.declared.Refusal.{Refusal}
+use Rattle.std.specs.Prelude.{Result}
+use Rattle.hbc_io.specs.Answers.{answered}
 use Prim.Native.Nat.{ℕ, zero, suc, ◌*◌, ◌≤◌, ◌<◌}
 use mathlib.Core.Path.{◌≡◌, refl, sym, ap, ◌∙◌}
 use mathlib.Core.List.{List, [], ◌∷◌}
@@ -11,17 +14,16 @@ use lib.Dec.{ltb, lit<}
 use borrow.Author.Tests.{le-ltb, ltb-true}
 use Rattle.hbc_bits.proofs.Fields.{both}
 use Rattle.hbc_io.specs.Lends.{below, written}
+use Rattle.hbc_io.proofs.Alone.{one_answer}
 use Rattle.hbc_io.proofs.Exits.{alone}
 use Rattle.hbc_rows.specs.Rows.{row_at}
 use Rattle.hbc_function_record.specs.declared.Layout.{Layout}
 use Rattle.hbc_function_record.specs.declared.Layout.TheVariants as lay
 use Rattle.hbc_function_record.specs.Row.{width, record_width, ROW_LAYOUT, ROW_ID, ROW_INFO_OFFSET, ROW_FLAGS}
 use Rattle.hbc_function_bytes.specs.Bytes.{places_in, words_at, values_in, info_free, goes_inline, byte_wide, zeros_in, each, right_row}
-use Rattle.hbc_function_write.specs.declared.Wrote.{Wrote}
-use Rattle.hbc_function_write.specs.Write.{says_wrote, rounded, free_at, place_at, end_at, table_end, head_of, put_large, put_header, put_headers, says_end, right_end, write_answer, WriteFunctions}
+use Rattle.hbc_function_write.specs.Write.{rounded, free_at, place_at, end_at, table_end, head_of, put_large, put_header, put_headers, says_end, right_end, write_answer, WriteFunctions}
 use Rattle.hbc_function_write.proofs.Plans.{checked_same}
 use Rattle.hbc_claims_function.specs.Written.{SameRecords}
-use Rattle.hbc_claims_function.proofs.Unique.{one_wrote}
 
 -- ---- rows whose records have the same words are written alike
 
@@ -109,13 +111,13 @@ module _ (rows₁ rows₂ : List ℕ) (layout : Layout) (start count large : ℕ
         end_as layout (row_at width rows₁) (row_at width rows₂) large count rows_as (table_end layout start count) count (le_refl count),
       )
 
-  pub one_output : {r q : Wrote} {b₁ b₂ : List ℕ} → WriteFunctions rows₁ layout start count large b r b₁ → WriteFunctions rows₂ layout start count large b q b₂
+  pub one_output : {r q : Result ℕ Refusal} {b₁ b₂ : List ℕ} → WriteFunctions rows₁ layout start count large b r b₁ → WriteFunctions rows₂ layout start count large b q b₂
       → (r ≡ q) × (b₁ ≡ b₂)
   one_output {r} {q} v w =
-      alone one_wrote v
+      alone one_answer v
       (record {
         says = w.says ∙ sym answers_as;
         leaves =
             w.leaves
-            ∙ ap (λ (x : List ℕ). written (says_wrote q) x b) (sym (puts_as layout (row_at width rows₁) (row_at width rows₂) large count rows_as start b count (le_refl count)));
+            ∙ ap (λ (x : List ℕ). written (answered q) x b) (sym (puts_as layout (row_at width rows₁) (row_at width rows₂) large count rows_as start b count (le_refl count)));
       })

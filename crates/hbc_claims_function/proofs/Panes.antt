@@ -1,4 +1,6 @@
 -- Two refreshes of one file: in either order, one of them twice, and one of which is refused.
+use Rattle.std.specs.Prelude.{Result as Res, Ok, Err}
+use Rattle.hbc_io.specs.Answers.{answered}
 use Prim.Native.Nat.{ℕ, ◌+◌}
 use mathlib.Core.Path.{◌≡◌, refl, ap, sym, ◌∙◌, subst}
 use mathlib.Core.List.{List}
@@ -8,15 +10,14 @@ use lib.ListN.{length}
 use Rattle.hbc_bits.proofs.Laws.{Bytes}
 use Rattle.hbc_io.specs.declared.Refusal.{Refusal}
 use Rattle.hbc_io.specs.Answer.{refuses, asked}
+use Rattle.hbc_io.proofs.Alone.{one_answer}
 use Rattle.hbc_io.proofs.Exits.{not_given, alone}
 use Rattle.hbc_function_record.specs.declared.Layout.{Layout}
 use Rattle.hbc_function_header.specs.Header.{function_at}
 use Rattle.hbc_function_header.specs.Meets.{meets}
 use Rattle.hbc_function_totals.specs.Totals.{sum}
-use Rattle.hbc_function.specs.declared.Refreshed.{Refreshed}
-use Rattle.hbc_function.specs.declared.Refreshed.TheVariants as refreshed
 use Rattle.hbc_function.specs.Table.{all, put_rows, Table}
-use Rattle.hbc_function.specs.Refresh.{says_refreshed, refresh_answer, RefreshFunctions}
+use Rattle.hbc_function.specs.Refresh.{refresh_answer, RefreshFunctions}
 use Rattle.hbc_function.proofs.ByFile.{by_file}
 use Rattle.hbc_function.proofs.Sums.{held_short}
 use Rattle.hbc_claims_law.specs.Terms.{count_of}
@@ -26,7 +27,6 @@ use Rattle.hbc_claims_function.proofs.Choices.{turned, same_twice, counts_both, 
 use Rattle.hbc_claims_function.proofs.Accepted.{refreshable}
 use Rattle.hbc_claims_function.proofs.Tables.{rewritten}
 use Rattle.hbc_claims_function.proofs.Totals.{Along, Sized, table_is, moved_along, totals_kept, sized_kept, kept_true}
-use Rattle.hbc_claims_function.proofs.Unique.{one_refreshed}
 
 -- ---- totals that move along with the sums
 
@@ -50,9 +50,9 @@ pub record Fit (count : ℕ) (t : Table) : Type 0 where
   pub sized : Sized t.rows count
 
 -- a table stays as long as it was
-pub long_after : (s : List ℕ) (layout : Layout) (start count low high : ℕ) (r : Refreshed) (t t' : Table) → RefreshFunctions s layout start count low high t r t' → length t'.rows ≡ length t.rows
-long_after s layout start count low high (refreshed.Done k) t t' p = (rewritten p).behind.long
-long_after s layout start count low high (refreshed.Refused x) t t' p = ap (λ (y : Table). length y.rows) p.leaves
+pub long_after : (s : List ℕ) (layout : Layout) (start count low high : ℕ) (r : Res ℕ Refusal) (t t' : Table) → RefreshFunctions s layout start count low high t r t' → length t'.rows ≡ length t.rows
+long_after s layout start count low high (Ok k) t t' p = (rewritten p).behind.long
+long_after s layout start count low high (Err x) t t' p = ap (λ (y : Table). length y.rows) p.leaves
 
 module _ (s : List ℕ) (bytes : Bytes s) (layout : Layout) (start count : ℕ) where
   -- of such tables, of one length, one refresh says one thing
@@ -64,24 +64,24 @@ module _ (s : List ℕ) (bytes : Bytes s) (layout : Layout) (start count : ℕ) 
       (λ h k. let l = held_short s layout start in kept_true s layout start count low high u bytes w.sized w.true_of (omega arith)) e
 
   -- and such a table stays one
-  pub after : (low high : ℕ) (r : Refreshed) (t t' : Table) → RefreshFunctions s layout start count low high t r t' → Fit count t → Fit count t'
-  after low high (refreshed.Done k) t t' p v = record {
+  pub after : (low high : ℕ) (r : Res ℕ Refusal) (t t' : Table) → RefreshFunctions s layout start count low high t r t' → Fit count t → Fit count t'
+  after low high (Ok k) t t' p v = record {
     true_of = totals_kept s layout start count low high k t t' p v.true_of;
     sized = sized_kept s layout start count low high k t t' bytes p v.sized;
   }
-  after low high (refreshed.Refused x) t t' p v = subst (Fit count) (sym p.leaves) v
+  after low high (Err x) t t' p v = subst (Fit count) (sym p.leaves) v
 
   -- ---- one refresh, of two such tables
-  one_answer : (low high : ℕ) (r q : Refreshed) (t t' u u' : Table) → RefreshFunctions s layout start count low high t r t'
+  told_same : (low high : ℕ) (r q : Res ℕ Refusal) (t t' u u' : Table) → RefreshFunctions s layout start count low high t r t'
       → RefreshFunctions s layout start count low high u q u' → Fit count t → Fit count u → length t.rows ≡ length u.rows → r ≡ q
-  one_answer low high r q t t' u u' p g v w e = one_refreshed r q (p.says ∙ same_says low high t u v w e ∙ sym g.says)
+  told_same low high r q t t' u u' p g v w e = one_answer r q (p.says ∙ same_says low high t u v w e ∙ sym g.says)
 
 -- ---- both accepted, whatever the totals
 
 module _ (s : List ℕ) (layout : Layout) (start count : ℕ) where
   -- one and then the other leaves the rows of either
-  pub rows_both : (low₁ high₁ low₂ high₂ k m : ℕ) (t u v : Table) → RefreshFunctions s layout start count low₁ high₁ t (refreshed.Done k) u
-      → RefreshFunctions s layout start count low₂ high₂ u (refreshed.Done m) v
+  pub rows_both : (low₁ high₁ low₂ high₂ k m : ℕ) (t u v : Table) → RefreshFunctions s layout start count low₁ high₁ t (Ok k) u
+      → RefreshFunctions s layout start count low₂ high₂ u (Ok m) v
       → v.rows ≡ put_rows (either (meets s layout start low₁ high₁) (meets s layout start low₂ high₂)) (function_at s layout start) t.rows count
   rows_both low₁ high₁ low₂ high₂ k m t u v p q =
       let c = meets s layout start low₁ high₁ in let d = meets s layout start low₂ high₂ in let f = function_at s layout start in
@@ -90,14 +90,14 @@ module _ (s : List ℕ) (layout : Layout) (start count : ℕ) where
       ap (λ (z : Table). z.rows) q.leaves ∙ ap (λ (z : Table). put_rows d f z.rows count) p.leaves
       ∙ put_both c d f count k m x.scans y.scans t.rows x.holds
 
-  pub along_both : (low₁ high₁ low₂ high₂ k m : ℕ) (t u v : Table) → RefreshFunctions s layout start count low₁ high₁ t (refreshed.Done k) u
-      → RefreshFunctions s layout start count low₂ high₂ u (refreshed.Done m) v → Along count t v
+  pub along_both : (low₁ high₁ low₂ high₂ k m : ℕ) (t u v : Table) → RefreshFunctions s layout start count low₁ high₁ t (Ok k) u
+      → RefreshFunctions s layout start count low₂ high₂ u (Ok m) v → Along count t v
   along_both low₁ high₁ low₂ high₂ k m t u v p q =
       along_on (moved_along s layout start count low₁ high₁ k t u p) (moved_along s layout start count low₂ high₂ m u v q)
 
-  pub accepted_either : (low₁ high₁ low₂ high₂ k m m' k' : ℕ) (t t₁ t₁₂ t₂ t₂₁ : Table) → RefreshFunctions s layout start count low₁ high₁ t (refreshed.Done k) t₁
-      → RefreshFunctions s layout start count low₂ high₂ t₁ (refreshed.Done m) t₁₂ → RefreshFunctions s layout start count low₂ high₂ t (refreshed.Done m') t₂
-      → RefreshFunctions s layout start count low₁ high₁ t₂ (refreshed.Done k') t₂₁ → (k' ≡ k) × (m ≡ m') × (t₁₂ ≡ t₂₁)
+  pub accepted_either : (low₁ high₁ low₂ high₂ k m m' k' : ℕ) (t t₁ t₁₂ t₂ t₂₁ : Table) → RefreshFunctions s layout start count low₁ high₁ t (Ok k) t₁
+      → RefreshFunctions s layout start count low₂ high₂ t₁ (Ok m) t₁₂ → RefreshFunctions s layout start count low₂ high₂ t (Ok m') t₂
+      → RefreshFunctions s layout start count low₁ high₁ t₂ (Ok k') t₂₁ → (k' ≡ k) × (m ≡ m') × (t₁₂ ≡ t₂₁)
   accepted_either low₁ high₁ low₂ high₂ k m m' k' t t₁ t₁₂ t₂ t₂₁ p q g h =
       let c = meets s layout start low₁ high₁ in let d = meets s layout start low₂ high₂ in (
         (rewritten h).counts ∙ sym (rewritten p).counts,
@@ -108,8 +108,8 @@ module _ (s : List ℕ) (layout : Layout) (start count : ℕ) where
             (along_both low₁ high₁ low₂ high₂ k m t t₁ t₁₂ p q) (along_both low₂ high₂ low₁ high₁ m' k' t t₂ t₂₁ g h),
       )
 
-  pub accepted_twice : (low high k m : ℕ) (t u v : Table) → RefreshFunctions s layout start count low high t (refreshed.Done k) u
-      → RefreshFunctions s layout start count low high u (refreshed.Done m) v → (m ≡ k) × (v ≡ u)
+  pub accepted_twice : (low high k m : ℕ) (t u v : Table) → RefreshFunctions s layout start count low high t (Ok k) u
+      → RefreshFunctions s layout start count low high u (Ok m) v → (m ≡ k) × (v ≡ u)
   accepted_twice low high k m t u v p q =
       let c = meets s layout start low high in (
         (rewritten q).counts ∙ sym (rewritten p).counts,
@@ -121,56 +121,56 @@ module _ (s : List ℕ) (layout : Layout) (start count : ℕ) where
 
 -- ---- true totals: whatever the answers are
 
-pub told : (s : List ℕ) (layout : Layout) (start count low high : ℕ) (t : Table) (r : Result) {x : Refreshed} → Over s layout start count low high t r → r.answer ≡ x
+pub told : (s : List ℕ) (layout : Layout) (start count low high : ℕ) (t : Table) (r : Result) {x : Res ℕ Refusal} → Over s layout start count low high t r → r.answer ≡ x
     → RefreshFunctions s layout start count low high t x r.table
-told s layout start count low high t r p e = subst (λ (x : Refreshed). RefreshFunctions s layout start count low high t x r.table) e p
+told s layout start count low high t r p e = subst (λ (x : Res ℕ Refusal). RefreshFunctions s layout start count low high t x r.table) e p
 
-pub left_when : (s : List ℕ) (layout : Layout) (start count low high : ℕ) (r : Refreshed) (t t' : Table) (x : Refusal) → RefreshFunctions s layout start count low high t r t'
-    → asked (says_refreshed r) ≡ refuses x → t' ≡ t
-left_when s layout start count low high (refreshed.Refused y) t t' x p e = p.leaves
-left_when s layout start count low high (refreshed.Done k) t t' x p e = absurd (not_given (sym e))
+pub left_when : (s : List ℕ) (layout : Layout) (start count low high : ℕ) (r : Res ℕ Refusal) (t t' : Table) (x : Refusal) → RefreshFunctions s layout start count low high t r t'
+    → asked (answered r) ≡ refuses x → t' ≡ t
+left_when s layout start count low high (Err y) t t' x p e = p.leaves
+left_when s layout start count low high (Ok k) t t' x p e = absurd (not_given (sym e))
 
 module _ (s : List ℕ) (bytes : Bytes s) (layout : Layout) (start count : ℕ) (t : Table) (fit : Fit count t) where
   -- the second one, after the first or alone
   pub one_says : (low₁ high₁ low₂ high₂ : ℕ) (a ab b : Result) → Over s layout start count low₁ high₁ t a → Over s layout start count low₂ high₂ a.table ab
       → Over s layout start count low₂ high₂ t b → ab.answer ≡ b.answer
   one_says low₁ high₁ low₂ high₂ a ab b p q g =
-      one_answer s bytes layout start count low₂ high₂ ab.answer b.answer a.table ab.table t b.table q g
+      told_same s bytes layout start count low₂ high₂ ab.answer b.answer a.table ab.table t b.table q g
       (after s bytes layout start count low₁ high₁ a.answer t a.table p fit) fit (long_after s layout start count low₁ high₁ a.answer t a.table p)
 
   -- the first is refused: the second's effect stands
   pub other_stands : (low₁ high₁ low₂ high₂ : ℕ) (a ab b : Result) (x : Refusal) → Over s layout start count low₁ high₁ t a
-      → Over s layout start count low₂ high₂ a.table ab → Over s layout start count low₂ high₂ t b → a.answer ≡ refreshed.Refused x → ab.table ≡ b.table
+      → Over s layout start count low₂ high₂ a.table ab → Over s layout start count low₂ high₂ t b → a.answer ≡ Err x → ab.table ≡ b.table
   other_stands low₁ high₁ low₂ high₂ a ab b x p q g e =
-      let l : a.table ≡ t = left_when s layout start count low₁ high₁ a.answer t a.table x p (ap (λ (y : Refreshed). asked (says_refreshed y)) e) in
+      let l : a.table ≡ t = left_when s layout start count low₁ high₁ a.answer t a.table x p (ap (λ (y : Res ℕ Refusal). asked (answered y)) e) in
       let h : Over s layout start count low₂ high₂ t ab = subst (λ (y : Table). Over s layout start count low₂ high₂ y ab) l q in
-      (alone one_refreshed h g).1
+      (alone one_answer h g).1
 
   -- one that is refused after the other leaves what the other left
   pub refused_after : (low₁ high₁ low₂ high₂ : ℕ) (a ab b : Result) (x : Refusal) → Over s layout start count low₁ high₁ t a
-      → Over s layout start count low₂ high₂ a.table ab → Over s layout start count low₂ high₂ t b → b.answer ≡ refreshed.Refused x → ab.table ≡ a.table
+      → Over s layout start count low₂ high₂ a.table ab → Over s layout start count low₂ high₂ t b → b.answer ≡ Err x → ab.table ≡ a.table
   refused_after low₁ high₁ low₂ high₂ a ab b x p q g e =
       left_when s layout start count low₂ high₂ ab.answer a.table ab.table x q
-      (ap (λ (y : Refreshed). asked (says_refreshed y)) (one_says low₁ high₁ low₂ high₂ a ab b p q g ∙ e))
+      (ap (λ (y : Res ℕ Refusal). asked (answered y)) (one_says low₁ high₁ low₂ high₂ a ab b p q g ∙ e))
 
   pub tables_same : (low₁ high₁ low₂ high₂ : ℕ) (a ab b ba : Result) → Over s layout start count low₁ high₁ t a → Over s layout start count low₂ high₂ a.table ab
       → Over s layout start count low₂ high₂ t b → Over s layout start count low₁ high₁ b.table ba → ab.table ≡ ba.table
   tables_same low₁ high₁ low₂ high₂ a ab b ba p q g h = by a.answer b.answer refl refl
     where
-      by : (x y : Refreshed) → a.answer ≡ x → b.answer ≡ y → ab.table ≡ ba.table
-      by (refreshed.Done k) (refreshed.Done m) e f =
+      by : (x y : Res ℕ Refusal) → a.answer ≡ x → b.answer ≡ y → ab.table ≡ ba.table
+      by (Ok k) (Ok m) e f =
           (accepted_either s layout start count low₁ high₁ low₂ high₂ k m m k t a.table ab.table b.table ba.table
           (told s layout start count low₁ high₁ t a p e) (told s layout start count low₂ high₂ a.table ab q (one_says low₁ high₁ low₂ high₂ a ab b p q g ∙ f))
           (told s layout start count low₂ high₂ t b g f) (told s layout start count low₁ high₁ b.table ba h (one_says low₂ high₂ low₁ high₁ b ba a g h p ∙ e))).2
-      by (refreshed.Refused x) y e f =
+      by (Err x) y e f =
           other_stands low₁ high₁ low₂ high₂ a ab b x p q g e ∙ sym (refused_after low₂ high₂ low₁ high₁ b ba a x g h p e)
-      by (refreshed.Done k) (refreshed.Refused y) e f =
+      by (Ok k) (Err y) e f =
           refused_after low₁ high₁ low₂ high₂ a ab b y p q g f ∙ sym (other_stands low₂ high₂ low₁ high₁ b ba a y g h p f)
 
 -- ---- the counts
 
 pub counts_of : (s : List ℕ) (layout : Layout) (start count low₁ high₁ low₂ high₂ k m : ℕ) (t t' u u' : Table)
-    → RefreshFunctions s layout start count low₁ high₁ t (refreshed.Done k) t' → RefreshFunctions s layout start count low₂ high₂ u (refreshed.Done m) u'
+    → RefreshFunctions s layout start count low₁ high₁ t (Ok k) t' → RefreshFunctions s layout start count low₂ high₂ u (Ok m) u'
     → k + m ≡ count_of (either (meets s layout start low₁ high₁) (meets s layout start low₂ high₂)) count
     + count_of (both (meets s layout start low₁ high₁) (meets s layout start low₂ high₂)) count
 counts_of s layout start count low₁ high₁ low₂ high₂ k m t t' u u' p q =

@@ -1,5 +1,7 @@
 -- The last word of a row, from the promises of the calls that write it.
-use Prim.Native.Nat.{ℕ, ◌+◌, ◌*◌, ◌-◌, ◌^◌, ◌≤◌, ◌<◌}
+use Rattle.hbc_io.specs.declared.Reason.TheVariants as reason
+use Rattle.std.specs.Prelude.{Some, Ok, Err}
+use Prim.Native.Nat.{ℕ, ◌+◌, ◌*◌, ◌^◌, ◌≤◌, ◌<◌}
 use mathlib.Core.Path.{◌≡◌, refl, sym, ap, ◌∙◌}
 use mathlib.Core.List.{List}
 use mathlib.Core.Bool.{Bool, true, false, cond}
@@ -18,11 +20,8 @@ use Rattle.hbc_function_record.specs.declared.Record.{Record}
 use Rattle.hbc_function_record.specs.declared.Found.{Found}
 use Rattle.hbc_function_record.specs.Record.{size_of, large_of, link_of, large_at}
 use Rattle.hbc_function_record.specs.Row.{width, inline, record_words, row_words, found_at, inline_found}
-use Rattle.hbc_function_header.specs.declared.Reading.TheVariants as reading
-use Rattle.hbc_function_header.specs.declared.Where.TheVariants as wh
 use Rattle.hbc_function_header.specs.Header.{header_at, ground_of, where_of, where_at, large_found, found, record_at, function_at, read_function, row_of, row_answer, FunctionRow}
 use Rattle.hbc_function_header.specs.Meets.{meets}
-use Rattle.hbc_function.specs.declared.Refreshed.TheVariants as refreshed
 use Rattle.hbc_function.proofs.Laws.{row_at_lem}
 use Rattle.hbc_function.specs.Table.{scan, put_rows, all, Table, ReadFunctions}
 use Rattle.hbc_function.specs.Refresh.{RefreshFunctions}
@@ -37,7 +36,7 @@ use Rattle.hbc_claims_function.proofs.Accepted.{accepted, refreshable}
 
 -- a large header that is found is in the file
 module _ (s : List ℕ) (layout : Layout) (at i : ℕ) {r : Found} where
-  in-by : (p n : ℕ) (b c : Bool) → ltb (length s) (p + n) ≡ c → found s layout at i (cond b (wh.Refused 2) (cond c (wh.Refused 3) (wh.Large p))) ≡ gives r
+  in-by : (p n : ℕ) (b c : Bool) → ltb (length s) (p + n) ≡ c → found s layout at i (cond b (Err reason.PastEnd) (cond c (Err reason.Cut) (Ok (Some p)))) ≡ gives r
       → p + n ≤ length s
   in-by p n true c k e = absurd (not_given e)
   in-by p n false true k e = absurd (not_given e)
@@ -122,20 +121,20 @@ module _ (s : List ℕ) (layout : Layout) (start i : ℕ) (small : length s ≤ 
 
 -- ---- the calls
 
-pub place_read : (s : List ℕ) (layout : Layout) (start count : ℕ) (t t' : Table) → ReadFunctions s layout start count t reading.Read t' → (i : ℕ) → i < count
+pub place_read : (s : List ℕ) (layout : Layout) (start count : ℕ) (t t' : Table) → ReadFunctions s layout start count t (Ok tt) t' → (i : ℕ) → i < count
     → Tells s layout (header_at layout start i) i (row_at width t'.rows i)
 place_read s layout start count t t' v i l =
     let a = accepted s layout start count (length t.rows) (sym v.says) in
     rw (ap (λ (x : Table). x.rows) v.leaves) (row_tells s layout start i a.short all count a.number t.rows a.holds a.scans l refl)
 
 pub place_refreshed : (s : List ℕ) (layout : Layout) (start count low high k : ℕ) (t t' : Table)
-    → RefreshFunctions s layout start count low high t (refreshed.Done k) t' → (i : ℕ) → i < count → meets s layout start low high i ≡ true
+    → RefreshFunctions s layout start count low high t (Ok k) t' → (i : ℕ) → i < count → meets s layout start low high i ≡ true
     → Tells s layout (header_at layout start i) i (row_at width t'.rows i)
 place_refreshed s layout start count low high k t t' v i l m =
     let a = refreshable s layout start count low high t k (sym v.says) in
     rw (ap (λ (x : Table). x.rows) v.leaves) (row_tells s layout start i a.short (meets s layout start low high) count k t.rows a.holds a.scans l m)
 
-pub place_row : (s : List ℕ) (layout : Layout) (start i : ℕ) (t t' : List ℕ) → FunctionRow s layout start i t reading.Read t'
+pub place_row : (s : List ℕ) (layout : Layout) (start i : ℕ) (t t' : List ℕ) → FunctionRow s layout start i t (Ok tt) t'
     → Tells s layout (header_at layout start i) i t'
 unfolding row_answer
 place_row s layout start i t t' v =

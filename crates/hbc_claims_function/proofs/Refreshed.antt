@@ -1,4 +1,7 @@
 -- A table read from a, then refreshed with b, which is the same outside the span, is as a fresh read of b would be, in answer and in every word.
+use Rattle.std.specs.Prelude.{Result, Ok, Err}
+use Rattle.hbc_io.specs.Answers.{answered}
+use Rattle.hbc_io.specs.declared.Refusal.{Refusal}
 use Prim.Native.Nat.{ℕ, ◌+◌, ◌*◌, ◌≤◌, ◌<◌}
 use mathlib.Core.Path.{◌≡◌, refl, ap, sym, ◌∙◌}
 use mathlib.Core.List.{List}
@@ -11,18 +14,14 @@ use Rattle.hbc_bits.proofs.Laws.{Bytes}
 use Rattle.hbc_io.specs.Outcome.{limit}
 use Rattle.hbc_function_record.specs.declared.Layout.{Layout}
 use Rattle.hbc_function_record.specs.declared.Found.{Found}
-use Rattle.hbc_function_header.specs.declared.Reading.{Reading}
-use Rattle.hbc_function_header.specs.declared.Reading.TheVariants as reading
 use Rattle.hbc_io.specs.Answer.{Answer, gives, asked, and_then}
 use Rattle.hbc_io.specs.Lends.{below}
 use Rattle.hbc_io.proofs.Exits.{not_given}
-use Rattle.hbc_function_header.specs.Header.{says_reading, function_at}
+use Rattle.hbc_function_header.specs.Header.{function_at}
 use Rattle.hbc_function_record.specs.Row.{width}
 use Rattle.hbc_function_header.specs.Meets.{meets}
-use Rattle.hbc_function.specs.declared.Refreshed.{Refreshed}
-use Rattle.hbc_function.specs.declared.Refreshed.TheVariants as refreshed
 use Rattle.hbc_function.specs.Table.{scan, put_rows, all, Table, read_answer, ReadFunctions}
-use Rattle.hbc_function.specs.Refresh.{says_refreshed, held, kept_met, if_kept, refresh_answer, RefreshFunctions}
+use Rattle.hbc_function.specs.Refresh.{held, kept_met, if_kept, refresh_answer, RefreshFunctions}
 use Rattle.hbc_function.proofs.ByFile.{kept_scan}
 use Rattle.hbc_function.proofs.Laws.{put_length, scanned, word_at}
 use Rattle.hbc_function.proofs.Sums.{held_short}
@@ -132,13 +131,13 @@ module _ (chosen : ℕ → Bool) (fa fb : ℕ → Answer Found) (n k m : ℕ) (e
 
 -- ---- the theorem, over the promises alone: t₀ is what the read of a leaves, t₁ its rows with true totals
 
-pub rows_by : (a : List ℕ) (layout : Layout) (start count : ℕ) {t t₀ : Table} {rows : List ℕ} → ReadFunctions a layout start count t reading.Read t₀ → rows ≡ t₀.rows
+pub rows_by : (a : List ℕ) (layout : Layout) (start count : ℕ) {t t₀ : Table} {rows : List ℕ} → ReadFunctions a layout start count t (Ok tt) t₀ → rows ≡ t₀.rows
     → rows ≡ put_rows all (function_at a layout start) t.rows count
 rows_by a layout start count p e = e ∙ ap (λ (x : Table). x.rows) p.leaves
 
 module _ {a b : List ℕ} {low high : ℕ} (v : Same a b low high) (layout : Layout) (start count : ℕ) {t t₀ t₁ t₂ t₃ : Table}
-    (p : ReadFunctions a layout start count t reading.Read t₀) (rows : t₁.rows ≡ t₀.rows) (true-before : True t₁ count) where
-  refreshed_is : {n : ℕ} → ReadFunctions b layout start count t reading.Read t₂ → RefreshFunctions b layout start count low high t₁ (refreshed.Done n) t₃ → t₃ ≡ t₂
+    (p : ReadFunctions a layout start count t (Ok tt) t₀) (rows : t₁.rows ≡ t₀.rows) (true-before : True t₁ count) where
+  refreshed_is : {n : ℕ} → ReadFunctions b layout start count t (Ok tt) t₂ → RefreshFunctions b layout start count low high t₁ (Ok n) t₃ → t₃ ≡ t₂
   refreshed_is {n} f g =
       let x = accepted a layout start count (length t.rows) (sym p.says) in
       let y = refreshable b layout start count low high t₁ n (sym g.says) in
@@ -150,30 +149,30 @@ module _ {a b : List ℕ} {low high : ℕ} (v : Same a b low high) (layout : Lay
       ∙ sym (ap (λ (u : Table). u.rows) f.leaves))
       (totals_kept b layout start count low high n t₁ t₃ g true-before) (totals_read b layout start count t t₂ f)
 
-  by_case : (r : Reading) (q : Refreshed) → says_reading r ≡ asked (says_refreshed q) → ReadFunctions b layout start count t r t₂
+  by_case : (r : Result (Unit {0}) Refusal) (q : Result ℕ Refusal) → answered r ≡ asked (answered q) → ReadFunctions b layout start count t r t₂
       → RefreshFunctions b layout start count low high t₁ q t₃ → AsFresh r t₂ t₁ q t₃
-  by_case reading.Read (refreshed.Done n) e f g = record {
+  by_case (Ok tt) (Ok n) e f g = record {
     when_read = λ h. (n, refl, refreshed_is f g);
     when_refused = λ x h. let z : ◌≡◌ {A = ℕ} 0 1 = cc in absurd (omega arith);
     only_read = λ m h. refl;
     only_refused = λ x h. let z : ◌≡◌ {A = ℕ} 0 1 = cc in absurd (omega arith);
   }
-  by_case (reading.Refused y) (refreshed.Refused w) e f g = record {
+  by_case (Err y) (Err w) e f g = record {
     when_read = λ h. let z : ◌≡◌ {A = ℕ} 0 1 = cc in absurd (omega arith);
     when_refused = λ x h. (cc, g.leaves);
     only_read = λ m h. let z : ◌≡◌ {A = ℕ} 0 1 = cc in absurd (omega arith);
     only_refused = λ x h. cc;
   }
-  by_case reading.Read (refreshed.Refused w) e f g = absurd (not_given (sym e))
-  by_case (reading.Refused y) (refreshed.Done n) e f g = absurd (not_given e)
+  by_case (Ok tt) (Err w) e f g = absurd (not_given (sym e))
+  by_case (Err y) (Ok n) e f g = absurd (not_given e)
 
   -- one equation for the four directions
-  pub answers : {r : Reading} {q : Refreshed} → low ≤ high → high ≤ length b → Bytes b → Words t₁.rows → ReadFunctions b layout start count t r t₂
-      → RefreshFunctions b layout start count low high t₁ q t₃ → says_reading r ≡ asked (says_refreshed q)
+  pub answers : {r : Result (Unit {0}) Refusal} {q : Result ℕ Refusal} → low ≤ high → high ≤ length b → Bytes b → Words t₁.rows → ReadFunctions b layout start count t r t₂
+      → RefreshFunctions b layout start count low high t₁ q t₃ → answered r ≡ asked (answered q)
   answers l h bytes w f g =
       let n : length t₁.rows ≡ length t.rows = ap length (rows_by a layout start count p rows) ∙ put_length all (function_at a layout start) t.rows count in
       f.says ∙ same_answer v l h layout start count (length t.rows) t₁ bytes w true-before n (sym p.says) ∙ ap asked (sym g.says)
 
-  pub refreshed_as_fresh : {r : Reading} {q : Refreshed} → low ≤ high → high ≤ length b → Bytes b → Words t₁.rows → ReadFunctions b layout start count t r t₂
+  pub refreshed_as_fresh : {r : Result (Unit {0}) Refusal} {q : Result ℕ Refusal} → low ≤ high → high ≤ length b → Bytes b → Words t₁.rows → ReadFunctions b layout start count t r t₂
       → RefreshFunctions b layout start count low high t₁ q t₃ → AsFresh r t₂ t₁ q t₃
   refreshed_as_fresh {r} {q} l h bytes w f g = by_case r q (answers l h bytes w f g) f g

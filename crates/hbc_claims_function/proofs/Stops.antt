@@ -1,4 +1,8 @@
 -- Refusal 16: at which row, and never where the totals are true.
+use Rattle.hbc_io.specs.Answers.{number_of}
+use Rattle.std.specs.Prelude.{Option, Some, None, Result, Ok, Err}
+use Rattle.hbc_io.specs.declared.Reason.{Reason}
+use Rattle.hbc_io.specs.declared.Reason.TheVariants as reason
 use Prim.Native.Nat.{ℕ, zero, suc, ◌+◌, ◌*◌, ◌≤◌, ◌<◌, ◌-◌}
 use mathlib.Core.Path.{◌≡◌, refl, ap, sym, ◌∙◌, subst}
 use mathlib.Core.List.{List}
@@ -21,14 +25,11 @@ use Rattle.hbc_function_record.specs.Record.{large_of}
 use Rattle.hbc_function_record.specs.Row.{width}
 use Rattle.hbc_function_header.specs.declared.Ground.{Ground}
 use Rattle.hbc_function_header.specs.declared.Ground.TheVariants as ground
-use Rattle.hbc_function_header.specs.declared.Where.{Where}
-use Rattle.hbc_function_header.specs.declared.Where.TheVariants as wh
 use Rattle.hbc_function_header.specs.Header.{header_at, ground_of, where_of, where_at, found, record_at, function_at}
 use Rattle.hbc_function_header.specs.Meets.{meets}
 use Rattle.hbc_function_totals.specs.declared.Share.{Share}
 use Rattle.hbc_function_totals.specs.declared.Totals.{Totals}
 use Rattle.hbc_function_totals.specs.Totals.{most, share_of, exchanged, next, kept}
-use Rattle.hbc_function.specs.declared.Refreshed.TheVariants as refreshed
 use Rattle.hbc_function.specs.Table.{step, scan, share_by, Table}
 use Rattle.hbc_function.specs.Refresh.{held, kept_met, if_kept, left_by, refreshed_by, refresh_answer, RefreshFunctions}
 use Rattle.hbc_function.proofs.Sums.{held_short}
@@ -44,26 +45,25 @@ use Rattle.hbc_claims_function.proofs.Refreshed.{past_tests}
 number_is : {A : Type 0} {k i : ℕ} {x : Refusal} → ◌≡◌ {A = Answer A} (refused_at k i) (refuses x) → x.number ≡ k
 number_is e = cc
 
-abbrev Small : Where → Type 0
-Small wh.Inline = Unit {0}
-Small (wh.Large place) = Unit {0}
-Small (wh.Refused k) = k ≤ 3
+abbrev Small : Result (Option ℕ) Reason → Type 0
+Small (Ok p) = Unit {0}
+Small (Err k) = number_of k ≤ 3
 
-small_by : (p : ℕ) (a b : Bool) → Small (cond a (wh.Refused 2) (cond b (wh.Refused 3) (wh.Large p)))
+small_by : (p : ℕ) (a b : Bool) → Small (cond a (Err reason.PastEnd) (cond b (Err reason.Cut) (Ok (Some p))))
 small_by p true b = omega arith
 small_by p false true = omega arith
 small_by p false false = tt
 
-small : (s : List ℕ) (n : ℕ) (g : Ground) → Small (where_of s n g)
+small : (s : List ℕ) (n : ℕ) (g : Option Ground) → Small (where_of s n g)
 unfolding where_of below
-small s n ground.None = omega arith
-small s n (ground.Inline at) = tt
-small s n (ground.Large at place) = small_by place (ltb (length s) place) (ltb (length s) (place + n))
+small s n None = omega arith
+small s n (Some (ground.Inline at)) = tt
+small s n (Some (ground.Large at place)) = small_by place (ltb (length s) place) (ltb (length s) (place + n))
 
-found_number : (s : List ℕ) (layout : Layout) (at i : ℕ) (w : Where) {x : Refusal} → Small w → found s layout at i w ≡ refuses x → x.number ≤ 3
-found_number s layout at i wh.Inline h e = absurd (not_given (sym e))
-found_number s layout at i (wh.Large place) h e = absurd (not_given (sym e))
-found_number s layout at i (wh.Refused k) h e = let q = number_is e in omega arith
+found_number : (s : List ℕ) (layout : Layout) (at i : ℕ) (w : Result (Option ℕ) Reason) {x : Refusal} → Small w → found s layout at i w ≡ refuses x → x.number ≤ 3
+found_number s layout at i (Ok None) h e = absurd (not_given (sym e))
+found_number s layout at i (Ok (Some place)) h e = absurd (not_given (sym e))
+found_number s layout at i (Err k) h e = let q = number_is e in omega arith
 
 function_number : (s : List ℕ) (layout : Layout) (start i : ℕ) {x : Refusal} → function_at s layout start i ≡ refuses x → x.number ≤ 3
 unfolding function_at record_at where_at
@@ -129,7 +129,7 @@ late s layout start count low high t {x} n e =
 
 -- true totals are not refused
 pub totals_fit : (s : List ℕ) (layout : Layout) (start count low high : ℕ) (t t' : Table) (x : Refusal) → Bytes s → Words t.rows → True t count
-    → RefreshFunctions s layout start count low high t (refreshed.Refused x) t' → x.number ≡ 16 → ⊥
+    → RefreshFunctions s layout start count low high t (Err x) t' → x.number ≡ 16 → ⊥
 totals_fit s layout start count low high t t' x b w v p n =
     let l = late s layout start count low high t n (sym p.says) in
     let h = held_short s layout start in let f = l.fits in let m = l.short in
@@ -211,7 +211,7 @@ stopped_at s layout start count low high t x l =
     })
 
 pub totals_stopped : (s : List ℕ) (layout : Layout) (start count low high : ℕ) (t t' : Table) (x : Refusal)
-    → RefreshFunctions s layout start count low high t (refreshed.Refused x) t' → x.number ≡ 16 → Stopped s layout start count low high t x.place
+    → RefreshFunctions s layout start count low high t (Err x) t' → x.number ≡ 16 → Stopped s layout start count low high t x.place
 totals_stopped s layout start count low high t t' x p n = stopped_at s layout start count low high t x (late s layout start count low high t n (sym p.says))
 
 -- ---- a refresh that is accepted came past every row
@@ -253,7 +253,7 @@ none_fails i now old new e =
     let d = reached _ _ _ _ not_given c.1 in
     none_by now old.large old.size new.large new.size a.0 b.0 c.0 d.0
 
-pub totals_passed : (s : List ℕ) (layout : Layout) (start count low high k : ℕ) (t t' : Table) → RefreshFunctions s layout start count low high t (refreshed.Done k) t'
+pub totals_passed : (s : List ℕ) (layout : Layout) (start count low high k : ℕ) (t t' : Table) → RefreshFunctions s layout start count low high t (Ok k) t'
     → (i : ℕ) → i < count → meets s layout start low high i ≡ true → Passed s layout start low high t i
 totals_passed s layout start count low high k t t' p i h c =
     let chosen = meets s layout start low high in

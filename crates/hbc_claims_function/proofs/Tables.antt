@@ -1,16 +1,15 @@
 -- What an accepted call leaves, from its promise.
+use Rattle.std.specs.Prelude.{Ok}
 use Prim.Native.Nat.{ℕ, ◌+◌, ◌*◌, ◌≤◌, ◌<◌}
 use mathlib.Core.Path.{◌≡◌, refl, sym, ap}
 use mathlib.Core.List.{List}
 use mathlib.Core.Bool.{Bool, true}
 use lib.ListN.{length, get_or}
 use Rattle.hbc_function_record.specs.declared.Layout.{Layout}
-use Rattle.hbc_function_header.specs.declared.Reading.TheVariants as reading
 use Rattle.hbc_io.specs.Answer.{gives}
 use Rattle.hbc_function_header.specs.Header.{function_at}
 use Rattle.hbc_function_record.specs.Row.{width}
 use Rattle.hbc_function_header.specs.Meets.{meets}
-use Rattle.hbc_function.specs.declared.Refreshed.TheVariants as refreshed
 use Rattle.hbc_function.proofs.Laws.{put_length, word_at}
 use Rattle.hbc_function.specs.Table.{put_rows, all, scan, Table, ReadFunctions}
 use Rattle.hbc_function.specs.Refresh.{RefreshFunctions}
@@ -28,7 +27,7 @@ row_word chosen s layout start n k t h e i c l p q =
     let r = a_record (f i) (scan_each chosen f n k i l e p) in
     record { read_as = r.0; found = r.1; is = word_at chosen f t n i c r.0 h l q p r.1 }
 
-pub filled : {s : List ℕ} {layout : Layout} {start count : ℕ} {t t' : Table} → ReadFunctions s layout start count t reading.Read t'
+pub filled : {s : List ℕ} {layout : Layout} {start count : ℕ} {t t' : Table} → ReadFunctions s layout start count t (Ok tt) t'
     → Filled s layout start count t.rows t'.rows
 filled {s} {layout} {start} {count} {t} {t'} p =
     let a = accepted s layout start count (length t.rows) (sym p.says) in
@@ -37,7 +36,7 @@ filled {s} {layout} {start} {count} {t} {t'} p =
       behind = record { rest = word_behind all (function_at s layout start) t.rows count; long = put_length all (function_at s layout start) t.rows count };
     })
 
-pub rewritten : {s : List ℕ} {layout : Layout} {start count low high k : ℕ} {t t' : Table} → RefreshFunctions s layout start count low high t (refreshed.Done k) t'
+pub rewritten : {s : List ℕ} {layout : Layout} {start count low high k : ℕ} {t t' : Table} → RefreshFunctions s layout start count low high t (Ok k) t'
     → Rewritten s layout start count low high t.rows k t'.rows
 rewritten {s} {layout} {start} {count} {low} {high} {k} {t} {t'} p =
     let a = refreshable s layout start count low high t k (sym p.says) in

@@ -1,4 +1,7 @@
 -- What two refreshes of one file come to: one over both spans, where these touch or overlap, and a fresh read.
+use Rattle.std.specs.Prelude.{Option, Some, None, Result as Res, Ok, Err}
+use Rattle.hbc_io.specs.Answers.{answered}
+use Rattle.hbc_io.specs.declared.Reason.{Reason}
 use Prim.Native.Nat.{ℕ, ◌+◌, ◌*◌, ◌≤◌, ◌<◌, min, max}
 use mathlib.Core.Path.{◌≡◌, refl, ap, sym, ◌∙◌, subst}
 use mathlib.Core.List.{List}
@@ -11,23 +14,18 @@ use Rattle.hbc_bits.proofs.Laws.{Bytes}
 use Rattle.hbc_io.specs.declared.Refusal.{Refusal}
 use Rattle.hbc_io.specs.Answer.{Answer, gives, refuses, refused_at, asked}
 use Rattle.hbc_io.specs.Lends.{below}
+use Rattle.hbc_io.proofs.Alone.{one_answer}
 use Rattle.hbc_io.proofs.Exits.{not_given, not_below}
 use Rattle.hbc_function_record.specs.declared.Layout.{Layout}
 use Rattle.hbc_function_record.specs.declared.Found.{Found}
 use Rattle.hbc_function_record.specs.Record.{size_of, large_of}
 use Rattle.hbc_function_record.specs.Row.{width}
-use Rattle.hbc_function_header.specs.declared.Reading.{Reading}
-use Rattle.hbc_function_header.specs.declared.Reading.TheVariants as reading
 use Rattle.hbc_function_header.specs.declared.Ground.{Ground}
 use Rattle.hbc_function_header.specs.declared.Ground.TheVariants as ground
-use Rattle.hbc_function_header.specs.declared.Where.{Where}
-use Rattle.hbc_function_header.specs.declared.Where.TheVariants as wh
-use Rattle.hbc_function_header.specs.Header.{says_reading, header_at, ground_at, where_at, found, record_at, function_at, opened}
+use Rattle.hbc_function_header.specs.Header.{header_at, ground_at, where_at, found, record_at, function_at, opened}
 use Rattle.hbc_function_header.specs.Meets.{overlap, ground_meets, meets}
-use Rattle.hbc_function.specs.declared.Refreshed.{Refreshed}
-use Rattle.hbc_function.specs.declared.Refreshed.TheVariants as refreshed
 use Rattle.hbc_function.specs.Table.{scan, put_rows, all, roomed, Table, read_answer, ReadFunctions}
-use Rattle.hbc_function.specs.Refresh.{says_refreshed, fitted, kept_met, refresh_answer, RefreshFunctions}
+use Rattle.hbc_function.specs.Refresh.{fitted, kept_met, refresh_answer, RefreshFunctions}
 use Rattle.hbc_function.proofs.ByFile.{below_same, kept_scan}
 use Rattle.hbc_function.proofs.Laws.{put_length}
 use Rattle.hbc_function.proofs.Sums.{held_short}
@@ -42,7 +40,6 @@ use Rattle.hbc_claims_function.proofs.Accepted.{un_asked, accepted, refreshable}
 use Rattle.hbc_claims_function.proofs.Tables.{row_word, rewritten}
 use Rattle.hbc_claims_function.proofs.Refreshed.{scan_says, read_says, mix, mix_scan, mixed, over, rows_by}
 use Rattle.hbc_claims_function.proofs.Totals.{true_same, moved_along, totals_read, totals_kept, kept_true}
-use Rattle.hbc_claims_function.proofs.Unique.{one_refreshed}
 use Rattle.hbc_claims_function.proofs.Panes.{Fit, along_same, rows_both, along_both, after, told, one_says}
 
 -- ---- two spans that touch or overlap, and the one from the first byte to the last of both
@@ -83,11 +80,11 @@ module _ (low₁ high₁ low₂ high₂ : ℕ) (h : low₁ ≤ high₂) (k : low
   overlap_joined : (a n : ℕ) → overlap a n (min low₁ low₂) (max high₁ high₂) ≡ cond (overlap a n low₁ high₁) true (overlap a n low₂ high₂)
   overlap_joined a n = joined_by a n (overlap a n low₁ high₁) (overlap a n low₂ high₂) refl refl
 
-  ground_joined : (n m : ℕ) (g : Ground) → ground_meets n m (min low₁ low₂) (max high₁ high₂) g ≡ cond (ground_meets n m low₁ high₁ g) true (ground_meets n m low₂ high₂ g)
+  ground_joined : (n m : ℕ) (g : Option Ground) → ground_meets n m (min low₁ low₂) (max high₁ high₂) g ≡ cond (ground_meets n m low₁ high₁ g) true (ground_meets n m low₂ high₂ g)
   unfolding ground_meets
-  ground_joined n m ground.None = refl
-  ground_joined n m (ground.Inline at) = overlap_joined at n
-  ground_joined n m (ground.Large at place) =
+  ground_joined n m None = refl
+  ground_joined n m (Some (ground.Inline at)) = overlap_joined at n
+  ground_joined n m (Some (ground.Large at place)) =
       ap (λ (x : Bool). cond x true (overlap place m (min low₁ low₂) (max high₁ high₂))) (overlap_joined at n)
       ∙ ap (λ (x : Bool). cond (cond (overlap at n low₁ high₁) true (overlap at n low₂ high₂)) true x) (overlap_joined place m)
       ∙ or_four (overlap at n low₁ high₁) (overlap at n low₂ high₂) (overlap place m low₁ high₁) (overlap place m low₂ high₂)
@@ -146,10 +143,10 @@ joint_past a b r {x} {y} {z} v = by (ltb a b)
     by false = v
 
 -- each function is refused at its own number
-found_own : (s : List ℕ) (layout : Layout) (at i : ℕ) (w : Where) {r : Refusal} → found s layout at i w ≡ refuses r → r.place ≡ i
-found_own s layout at i wh.Inline e = absurd (not_given (sym e))
-found_own s layout at i (wh.Large place) e = absurd (not_given (sym e))
-found_own s layout at i (wh.Refused k) e = cc
+found_own : (s : List ℕ) (layout : Layout) (at i : ℕ) (w : Res (Option ℕ) Reason) {r : Refusal} → found s layout at i w ≡ refuses r → r.place ≡ i
+found_own s layout at i (Ok None) e = absurd (not_given (sym e))
+found_own s layout at i (Ok (Some place)) e = absurd (not_given (sym e))
+found_own s layout at i (Err k) e = cc
 
 pub function_own : (s : List ℕ) (layout : Layout) (start i : ℕ) (r : Refusal) → function_at s layout start i ≡ refuses r → r.place ≡ i
 unfolding function_at record_at
@@ -159,13 +156,13 @@ joint_same : {x u y v z w : Answer ℕ} → x ≡ u → y ≡ v → z ≡ w → 
 joint_same {x} {u} {y} {v} {z} {w} e f g o =
     subst (λ (i : Answer ℕ). Joint u v i) g (subst (λ (i : Answer ℕ). Joint u i z) f (subst (λ (i : Answer ℕ). Joint i y z) e o))
 
-done_by : (r : Refreshed) {k : ℕ} → says_refreshed r ≡ gives k → r ≡ refreshed.Done k
-done_by r {k} e = one_refreshed r (refreshed.Done k) e
+done_by : (r : Res ℕ Refusal) {k : ℕ} → answered r ≡ gives k → r ≡ Ok k
+done_by r {k} e = one_answer r (Ok k) e
 
 -- ---- what both leave, word by word
 
-module _ (s : List ℕ) (layout : Layout) (start count low₁ high₁ low₂ high₂ k m : ℕ) (t u v : Table) (p : RefreshFunctions s layout start count low₁ high₁ t (refreshed.Done k) u)
-    (q : RefreshFunctions s layout start count low₂ high₂ u (refreshed.Done m) v) where
+module _ (s : List ℕ) (layout : Layout) (start count low₁ high₁ low₂ high₂ k m : ℕ) (t u v : Table) (p : RefreshFunctions s layout start count low₁ high₁ t (Ok k) u)
+    (q : RefreshFunctions s layout start count low₂ high₂ u (Ok m) v) where
   pub both_met : (i c : ℕ) → i < count → either (meets s layout start low₁ high₁) (meets s layout start low₂ high₂) i ≡ true → c < width
       → RowWord s layout start i c (get_or v.rows (i * width + c) 0)
   both_met i c l e h =
@@ -220,7 +217,7 @@ module _ (s : List ℕ) (bytes : Bytes s) (layout : Layout) (start count : ℕ) 
   module _ (low₁ high₁ low₂ high₂ : ℕ) (a b : Result) (p : Over s layout start count low₁ high₁ t a) (g : Over s layout start count low₂ high₂ t b)
       (rises₁ : low₁ ≤ high₁) (rises₂ : low₂ ≤ high₂) where
     module _ (touch₁ : low₁ ≤ high₂) (touch₂ : low₂ ≤ high₁) (c : Result) (o : Over s layout start count (min low₁ low₂) (max high₁ high₂) t c) where
-      pub says_one : OfBoth (says_refreshed a.answer) (says_refreshed b.answer) (says_refreshed c.answer)
+      pub says_one : OfBoth (answered a.answer) (answered b.answer) (answered c.answer)
       says_one =
           let f = function_at s layout start in let n = length t.rows in
           let j : Joint (gated s layout start count n high₁ (scan (meets s layout start low₁ high₁) f count)) (gated s layout start count n high₂ (scan (meets s layout start low₂ high₂) f count))
@@ -232,11 +229,11 @@ module _ (s : List ℕ) (bytes : Bytes s) (layout : Layout) (start count : ℕ) 
           ∙ sym (span_says (min low₁ low₂) (max high₁ high₂) (omega arith)) ∙ sym o.says) j)
 
       -- accepted, it reports how many meet either, and leaves what the two leave
-      pub as_one : (ab : Result) (j : ℕ) → Over s layout start count low₂ high₂ a.table ab → c.answer ≡ refreshed.Done j
+      pub as_one : (ab : Result) (j : ℕ) → Over s layout start count low₂ high₂ a.table ab → c.answer ≡ Ok j
           → (j ≡ count_of (either (meets s layout start low₁ high₁) (meets s layout start low₂ high₂)) count) × (c.table ≡ ab.table)
       as_one ab j q e =
           let m = meets_joined low₁ high₁ low₂ high₂ touch₁ touch₂ s layout start in
-          let u = says_one.only j (ap says_refreshed e) in
+          let u = says_one.only j (ap answered e) in
           let ea = done_by a.answer u.0.1 in
           let eb = one_says s bytes layout start count t fit low₁ high₁ low₂ high₂ a ab b p q g ∙ done_by b.answer u.1.1 in
           let pa = told s layout start count low₁ high₁ t a p ea in
@@ -266,7 +263,7 @@ of_asked {z = z} v = record {
 
 -- t has the rows of a, which was read whole into a table t₀, and true totals; s is a but for two spans
 module _ {a s : List ℕ} {low₁ high₁ low₂ high₂ : ℕ} (v : SameBut a s low₁ high₁ low₂ high₂) (bytes : Bytes s) (layout : Layout) (start count : ℕ) {t₀ t₁ t : Table}
-    (was : ReadFunctions a layout start count t₀ reading.Read t₁) (rows : t.rows ≡ t₁.rows) (fit : Fit count t) where
+    (was : ReadFunctions a layout start count t₀ (Ok tt) t₁) (rows : t.rows ≡ t₁.rows) (fit : Fit count t) where
   same_apart : (i : ℕ) → either (meets s layout start low₁ high₁) (meets s layout start low₂ high₂) i ≡ false → function_at a layout start i ≡ function_at s layout start i
   same_apart i m =
       let p = meets s layout start low₁ high₁ i in let q = meets s layout start low₂ high₂ i in
@@ -288,18 +285,18 @@ module _ {a s : List ℕ} {low₁ high₁ low₂ high₂ : ℕ} (v : SameBut a s
       (function_at a layout start) read_whole.number read_whole.scans same_apart
 
   module _ (one two : Result) (p : Over s layout start count low₁ high₁ t one) (g : Over s layout start count low₂ high₂ t two) (rises₁ : low₁ ≤ high₁) (ends₁ : high₁ ≤ length s)
-      (rises₂ : low₂ ≤ high₂) (ends₂ : high₂ ≤ length s) (r : Reading) (t₂ : Table) (fresh : ReadFunctions s layout start count t₀ r t₂) where
-    pub says_fresh : OfBoth (says_refreshed one.answer) (says_refreshed two.answer) (says_reading r)
+      (rises₂ : low₂ ≤ high₂) (ends₂ : high₂ ≤ length s) (r : Res (Unit {0}) Refusal) (t₂ : Table) (fresh : ReadFunctions s layout start count t₀ r t₂) where
+    pub says_fresh : OfBoth (answered one.answer) (answered two.answer) (answered r)
     says_fresh =
-        subst (OfBoth (says_refreshed one.answer) (says_refreshed two.answer)) (both_scan ∙ sym fresh.says)
+        subst (OfBoth (answered one.answer) (answered two.answer)) (both_scan ∙ sym fresh.says)
         (of_asked (of_joint (joint_same (one_scan low₁ high₁ rises₁ ends₁ ∙ sym p.says) (one_scan low₂ high₂ rises₂ ends₂ ∙ sym g.says) refl
         (joint (function_at s layout start) (function_own s layout start) (meets s layout start low₁ high₁) (meets s layout start low₂ high₂) count))))
 
-    pub both_fresh : (last : Result) → Over s layout start count low₂ high₂ one.table last → r ≡ reading.Read → last.table ≡ t₂
+    pub both_fresh : (last : Result) → Over s layout start count low₂ high₂ one.table last → r ≡ Ok tt → last.table ≡ t₂
     both_fresh last q e =
         let c = either (meets s layout start low₁ high₁) (meets s layout start low₂ high₂) in
-        let u = says_fresh.only tt (ap says_reading e) in
-        let w = subst (λ (x : Reading). ReadFunctions s layout start count t₀ x t₂) e fresh in
+        let u = says_fresh.only tt (ap answered e) in
+        let w = subst (λ (x : Res (Unit {0}) Refusal). ReadFunctions s layout start count t₀ x t₂) e fresh in
         let x = read_whole in
         let y = un_asked (scan c (function_at s layout start) count) (both_scan ∙ sym w.says) in
         let pa = told s layout start count low₁ high₁ t one p (done_by one.answer u.0.1) in
@@ -317,8 +314,8 @@ module _ {a s : List ℕ} {low₁ high₁ low₂ high₂ : ℕ} (v : SameBut a s
 
 -- o was read whole into t₀, and t has its rows; s is o but for two spans, and made t into u over the second; b is s but for the first
 module _ {o s b : List ℕ} {low₁ high₁ low₂ high₂ : ℕ} (v : SameBut o s low₁ high₁ low₂ high₂) (w : Same s b low₁ high₁) (layout : Layout) (start count k : ℕ)
-    {t₀ t₁ t u : Table} (was : ReadFunctions o layout start count t₀ reading.Read t₁) (rows : t.rows ≡ t₁.rows)
-    (p : RefreshFunctions s layout start count low₂ high₂ t (refreshed.Done k) u) where
+    {t₀ t₁ t u : Table} (was : ReadFunctions o layout start count t₀ (Ok tt) t₁) (rows : t.rows ≡ t₁.rows)
+    (p : RefreshFunctions s layout start count low₂ high₂ t (Ok k) u) where
   both_but : SameBut o b low₁ high₁ low₂ high₂
   both_but = record { long = v.long ∙ w.long; out = λ j h l. v.out j h l ∙ w.out j h }
 
@@ -349,20 +346,20 @@ module _ {o s b : List ℕ} {low₁ high₁ low₂ high₂ : ℕ} (v : SameBut o
       by true e = function_same w i layout start m
       by false e = function_apart both_but i layout start m (sym (meets_same w i layout start m low₂ high₂) ∙ e)
 
-  module _ (bytes : Bytes s) (bytes-now : Bytes b) (fit : Fit count t) (rises : low₁ ≤ high₁) (ends : high₁ ≤ length b) {r : Reading} {q : Refreshed} {t₂ t₃ : Table}
+  module _ (bytes : Bytes s) (bytes-now : Bytes b) (fit : Fit count t) (rises : low₁ ≤ high₁) (ends : high₁ ≤ length b) {r : Res (Unit {0}) Refusal} {q : Res ℕ Refusal} {t₂ t₃ : Table}
       (f : ReadFunctions b layout start count t₀ r t₂) (g : RefreshFunctions b layout start count low₁ high₁ u q t₃) where
-    pub mended_answers : says_reading r ≡ asked (says_refreshed q)
+    pub mended_answers : answered r ≡ asked (answered q)
     mended_answers =
-        let j = after s bytes layout start count low₂ high₂ (refreshed.Done k) t u p fit in
+        let j = after s bytes layout start count low₂ high₂ (Ok k) t u p fit in
         let n : length u.rows ≡ length t₀.rows = ap length now_rows ∙ put_length all now t₀.rows count in
         f.says ∙ sym (read_says o b layout start count (length t₀.rows) both_but.long first_read (meets b layout start low₁ high₁) now now_read.0 now_read.1 now_same)
         ∙ ap asked (scan_says o b layout start count (length t₀.rows) both_but.long first_read low₁ high₁ u rises ends bytes-now j.sized j.true_of n ∙ sym g.says)
 
-    pub mended_table : r ≡ reading.Read → t₃ ≡ t₂
+    pub mended_table : r ≡ Ok tt → t₃ ≡ t₂
     mended_table e =
-        let fr = subst (λ (x : Reading). ReadFunctions b layout start count t₀ x t₂) e f in
-        let d = un_asked (says_refreshed q) (sym mended_answers ∙ ap says_reading e) in
-        let gr = subst (λ (x : Refreshed). RefreshFunctions b layout start count low₁ high₁ u x t₃) (done_by q d.1) g in
+        let fr = subst (λ (x : Res (Unit {0}) Refusal). ReadFunctions b layout start count t₀ x t₂) e f in
+        let d = un_asked (answered q) (sym mended_answers ∙ ap answered e) in
+        let gr = subst (λ (x : Res ℕ Refusal). RefreshFunctions b layout start count low₁ high₁ u x t₃) (done_by q d.1) g in
         let y = refreshable b layout start count low₁ high₁ u d.0 (sym gr.says) in
         true_same
         (ap (λ (x : Table). x.rows) gr.leaves ∙ ap (λ (x : List ℕ). put_rows (meets b layout start low₁ high₁) (function_at b layout start) x count) now_rows

@@ -1,4 +1,6 @@
 -- The totals beside a table: true after a read, kept true by a refresh, moved by the sums in any table; and when 16 cannot be.
+use Rattle.std.specs.Prelude.{Option, Some, None, Result, Ok, Err}
+use Rattle.hbc_io.specs.declared.Reason.{Reason}
 use Prim.Native.Nat.{ℕ, zero, suc, ◌+◌, ◌*◌, ◌^◌, ◌≤◌, ◌<◌}
 use mathlib.Core.Path.{◌≡◌, refl, ap, sym, ◌∙◌}
 use mathlib.Core.List.{List}
@@ -20,9 +22,6 @@ use Rattle.hbc_function_record.specs.declared.Layout.TheVariants as lay
 use Rattle.hbc_function_record.specs.BitLayout.{legacy_bits, modern_bits}
 use Rattle.hbc_function_record.specs.Record.{size_of, inline_of, legacy_of, modern_of, legacy_by, modern_by, large_at, legacy_large, modern_large}
 use Rattle.hbc_function_record.specs.Row.{width, inline, row_words, legacy_words, modern_words, inline_found, ROW_SIZE, ROW_LARGE_PLACE}
-use Rattle.hbc_function_header.specs.declared.Where.{Where}
-use Rattle.hbc_function_header.specs.declared.Where.TheVariants as wh
-use Rattle.hbc_function_header.specs.declared.Reading.TheVariants as reading
 use Rattle.hbc_function_header.specs.Header.{header_at, where_at, large_found, found, record_at, function_at}
 use Rattle.hbc_function_header.specs.Meets.{meets}
 use Rattle.hbc_function_totals.specs.declared.Share.{Share}
@@ -30,7 +29,6 @@ use Rattle.hbc_function_totals.specs.declared.Totals.{Totals}
 use Rattle.hbc_function_totals.specs.Totals.{large_row, size_row, share_of, totals, sum, most, next, kept}
 use Rattle.hbc_function_totals.proofs.Sums.{sum_next, sum_skip, sum_same, sum_part, sum_most, sum_swap}
 use Rattle.hbc_function_totals.proofs.Kepts.{given_is, exchange_gave, kept_safe}
-use Rattle.hbc_function.specs.declared.Refreshed.TheVariants as refreshed
 use Rattle.hbc_function.proofs.Laws.{row_at_lem}
 use Rattle.hbc_function.specs.Table.{all, share_by, Table, totals_of, ReadFunctions}
 use Rattle.hbc_function.specs.Refresh.{kept_met, left_by, RefreshFunctions}
@@ -66,7 +64,7 @@ true_by {t} {n} e = record {
   sizes = ap (λ (x : Totals). x.sizes) e ∙ size_sum all t.rows n;
 }
 
-pub totals_read : (s : List ℕ) (layout : Layout) (start count : ℕ) (t t' : Table) → ReadFunctions s layout start count t reading.Read t' → True t' count
+pub totals_read : (s : List ℕ) (layout : Layout) (start count : ℕ) (t t' : Table) → ReadFunctions s layout start count t (Ok tt) t' → True t' count
 totals_read s layout start count t t' p =
     true_by (ap (λ (x : Table). x.totals) p.leaves ∙ ap (λ (u : List ℕ). totals_of u count) (sym (ap (λ (x : Table). x.rows) p.leaves)))
 
@@ -122,7 +120,7 @@ pub record Along (count : ℕ) (t t' : Table) : Type 0 where
   pub large : t'.totals.large + sum all (one_if_large t.rows) count ≡ t.totals.large + sum all (one_if_large t'.rows) count
   pub sizes : t'.totals.sizes + sum all (size_word t.rows) count ≡ t.totals.sizes + sum all (size_word t'.rows) count
 
-module _ (s : List ℕ) (layout : Layout) (start count low high k : ℕ) (t t' : Table) (p : RefreshFunctions s layout start count low high t (refreshed.Done k) t') where
+module _ (s : List ℕ) (layout : Layout) (start count low high k : ℕ) (t t' : Table) (p : RefreshFunctions s layout start count low high t (Ok k) t') where
   -- the share of a function that was read again is that of its row now
   pub share_now : (i : ℕ) → i < count → meets s layout start low high i ≡ true → share_by (function_at s layout start i) ≡ share_of (row_at width t'.rows i)
   share_now i h m =
@@ -187,10 +185,10 @@ module _ (s : List ℕ) (b : Bytes s) where
   large_size lay.Legacy16 place i = size_of_lem refl (le_lt s (place + 8) 4 b)
   large_size lay.Modern12 place i = size_of_lem refl (le_lt s (place + 12) 4 b)
 
-  found_size : (layout : Layout) (at i : ℕ) (w : Where) → (share_by (found s layout at i w)).size ≤ 4294967295
-  found_size layout at i wh.Inline = inline-size layout i (le_at s at (size_of layout))
-  found_size layout at i (wh.Large place) = large_size layout place i
-  found_size layout at i (wh.Refused k) = omega arith
+  found_size : (layout : Layout) (at i : ℕ) (w : Result (Option ℕ) Reason) → (share_by (found s layout at i w)).size ≤ 4294967295
+  found_size layout at i (Ok None) = inline-size layout i (le_at s at (size_of layout))
+  found_size layout at i (Ok (Some place)) = large_size layout place i
+  found_size layout at i (Err k) = omega arith
 
   new_size : (layout : Layout) (start i : ℕ) → (share_by (function_at s layout start i)).size ≤ 4294967295
   unfolding function_at record_at
@@ -213,7 +211,7 @@ pub words_sized : (t : List ℕ) (count : ℕ) → Words t → Sized t count
 words_sized t count w = λ i h. let x = w (i * width + ROW_SIZE) in omega arith
 
 pub sized_kept : (s : List ℕ) (layout : Layout) (start count low high k : ℕ) (t t' : Table) → Bytes s
-    → RefreshFunctions s layout start count low high t (refreshed.Done k) t' → Sized t.rows count → Sized t'.rows count
+    → RefreshFunctions s layout start count low high t (Ok k) t' → Sized t.rows count → Sized t'.rows count
 sized_kept s layout start count low high k t t' b p z = λ i h. by i h (meets s layout start low high i) refl
   where
     by : (i : ℕ) → i < count → (met : Bool) → meets s layout start low high i ≡ met → size_word t'.rows i ≤ 4294967295

@@ -1,4 +1,5 @@
 -- What an accepted write leaves, from its promise: where its headers are, what stands there as the reader has it, and that reading gives the rows.
+use Rattle.std.specs.Prelude.{Ok}
 use Prim.Native.Nat.{ℕ, zero, suc, ◌+◌, ◌*◌, ◌%◌, ◌^◌, ◌≤◌, ◌<◌}
 use mathlib.Core.Path.{◌≡◌, refl, sym, ap, ◌∙◌}
 use mathlib.Core.List.{List, [], ◌∷◌}
@@ -11,6 +12,7 @@ use lib.Seq.{length-take-le, take_at}
 use lib.Dec.{ltb, lit<}
 use Rattle.hbc_bits.specs.Bits.{le_at}
 use Rattle.hbc_io.specs.Answer.{Answer, gives, asked}
+use Rattle.hbc_io.proofs.Alone.{one_answer}
 use Rattle.hbc_io.proofs.Exits.{words}
 use Rattle.hbc_rows.specs.Rows.{row_at}
 use Rattle.hbc_function_record.specs.declared.Layout.{Layout}
@@ -18,7 +20,6 @@ use Rattle.hbc_function_record.specs.declared.Record.{Record}
 use Rattle.hbc_function_record.specs.Record.{size_of, large_of, inline_of}
 use Rattle.hbc_function_record.specs.declared.Found.{Found}
 use Rattle.hbc_function_record.specs.Row.{width, record_width, inline, row_words, found_at}
-use Rattle.hbc_function_header.specs.declared.Reading.TheVariants as reading
 use Rattle.hbc_function_header.specs.Header.{header_at, large_found, function_at}
 use Rattle.hbc_function.specs.Table.{step, scan, put_rows, all, Table, summed, read_answer}
 use Rattle.hbc_function.proofs.Laws.{put_length, scanned, row_at_lem}
@@ -37,7 +38,6 @@ use Rattle.hbc_claims_function.proofs.Accepted.{writable}
 use Rattle.hbc_claims_function.proofs.Packed as packs
 use Rattle.hbc_claims_function.proofs.Headers.{record_by, inline_stands, large_stands, pointer_fits, pointer_place, pointer_flagged, inline_fits, inline_own, inline_info, large_info, row_back, row_layable}
 use Rattle.hbc_claims_function.proofs.Holds.{Holds, headers_hold, headers_other}
-use Rattle.hbc_claims_function.proofs.Unique.{one_reading}
 
 -- ---- rows of u32 words
 
@@ -234,7 +234,7 @@ module _ {rows : List ℕ} {layout : Layout} {start count large : ℕ} {b : List
       let g = function_at b' layout start in
       let u : t' ≡ summed (put_rows all g t.rows count) count = words v ∙ rw a in
       let e : t'.rows ≡ put_rows all g t.rows count = ap (λ (x : Table). x.rows) u in (
-        one_reading r reading.Read (v.says ∙ a),
+        one_answer r (Ok tt) (v.says ∙ a),
         λ i l. ap (λ (u : List ℕ). row_at width u i) e ∙ back_row t.rows h i l,
         rw e (record { rest = word_behind all g t.rows count; long = put_length all g t.rows count }),
       )

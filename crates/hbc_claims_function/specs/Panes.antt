@@ -1,16 +1,15 @@
 -- docs/FORMAT.md, section 3.11: two refreshes of one file, each over a span of its own.
-use Rattle.std.specs.Prelude.{ℕ, ◌≤◌, ◌<◌, ◌≡◌, List, Bool, true, false, cond, length, get_or}
+use Rattle.std.specs.Prelude.{ℕ, ◌≤◌, ◌<◌, ◌≡◌, List, Bool, true, false, cond, length, get_or, Result as Res}
 use Rattle.hbc_io.specs.declared.Refusal.{Refusal}
 use Rattle.hbc_io.specs.Answer.{Answer, gives, refuses}
 use Rattle.hbc_function_record.specs.declared.Layout.{Layout}
-use Rattle.hbc_function.specs.declared.Refreshed.{Refreshed}
 use Rattle.hbc_function.specs.Table.{Table}
 use Rattle.hbc_function.specs.Refresh.{RefreshFunctions}
 use Rattle.hbc_claims_law.specs.Terms.{Either}
 
 -- what a refresh answers, and the table, rows and totals, that it leaves
 pub record Result : Type 0 where
-  pub answer : Refreshed
+  pub answer : Res ℕ Refusal
   pub table : Table
 
 -- a refresh of the table t over a span, by the call's promise

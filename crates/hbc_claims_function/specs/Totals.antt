@@ -1,5 +1,5 @@
 -- docs/FORMAT.md, section 3.10: the totals beside a table, by the table's own words.
-use Rattle.std.specs.Prelude.{ℕ, ◌+◌, ◌*◌, ◌-◌, ◌^◌, ◌≤◌, ◌<◌, ◌≡◌, List, Bool, true, cond, get_or, eqb}
+use Rattle.std.specs.Prelude.{ℕ, ◌+◌, ◌*◌, ◌-◌, ◌^◌, ◌≤◌, ◌<◌, ◌≡◌, List, Bool, true, cond, get_or, eqb, Ok}
 use Rattle.hbc_io.specs.Answer.{gives, asked}
 use Rattle.hbc_function_record.specs.declared.Layout.{Layout}
 use Rattle.hbc_function_record.specs.Row.{width, ROW_SIZE, ROW_LARGE_PLACE}
@@ -7,7 +7,6 @@ use Rattle.hbc_function_header.specs.Header.{function_at}
 use Rattle.hbc_function_header.specs.Meets.{meets}
 use Rattle.hbc_function_totals.specs.declared.Totals.{Totals}
 use Rattle.hbc_function_totals.specs.Totals.{sum}
-use Rattle.hbc_function.specs.declared.Refreshed.TheVariants as refreshed
 use Rattle.hbc_function.specs.Table.{all, share_by, Table}
 use Rattle.hbc_function.specs.Refresh.{RefreshFunctions}
 
@@ -47,7 +46,7 @@ pub record Stopped (s : List ℕ) (layout : Layout) (start count low high : ℕ)
   -- of the functions before i alone the refresh is accepted: i is the first
   pub k : ℕ
   pub before : Table
-  pub first : RefreshFunctions s layout start i low high t (refreshed.Done k) before
+  pub first : RefreshFunctions s layout start i low high t (Ok k) before
   -- and with the totals that it leaves, row i of the table cannot be exchanged for function i of the file
   pub fails : Fails before.totals (one_if_large t.rows i) (size_word t.rows i)
       (share_by (function_at s layout start i)).large (share_by (function_at s layout start i)).size
@@ -57,6 +56,6 @@ pub record Stopped (s : List ℕ) (layout : Layout) (start count low high : ℕ)
 pub record Passed (s : List ℕ) (layout : Layout) (start low high : ℕ) (t : Table) (i : ℕ) : Type 0 where
   pub k : ℕ
   pub before : Table
-  pub first : RefreshFunctions s layout start i low high t (refreshed.Done k) before
+  pub first : RefreshFunctions s layout start i low high t (Ok k) before
   pub fits : Fails before.totals (one_if_large t.rows i) (size_word t.rows i)
       (share_by (function_at s layout start i)).large (share_by (function_at s layout start i)).size → ⊥

@@ -1,17 +1,15 @@
 -- docs/FORMAT.md, section 3.9: what an accepted write leaves in the buffer, and what reading it gives. f i is row i, n the buffer's length, e the answer.
-use Rattle.std.specs.Prelude.{ℕ, ◌+◌, ◌*◌, ◌%◌, ◌^◌, ◌≤◌, ◌<◌, ◌≡◌, List, [], ◌∷◌, ◌++◌, true, false, cond, length, get_or, take}
+use Rattle.hbc_io.specs.declared.Refusal.{Refusal}
+use Rattle.std.specs.Prelude.{ℕ, ◌+◌, ◌*◌, ◌%◌, ◌^◌, ◌≤◌, ◌<◌, ◌≡◌, List, [], ◌∷◌, ◌++◌, true, false, cond, length, get_or, take, Result, Ok}
 use Rattle.hbc_io.specs.Answer.{gives}
 use Rattle.hbc_function_record.specs.declared.Layout.{Layout}
 use Rattle.hbc_function_record.specs.declared.Found.{Found}
 use Rattle.hbc_function_record.specs.Record.{size_of, large_of}
 use Rattle.hbc_function_record.specs.Row.{width, record_width, inline, row_words}
 use Rattle.hbc_rows.specs.Rows.{row_at}
-use Rattle.hbc_function_header.specs.declared.Reading.{Reading}
-use Rattle.hbc_function_header.specs.declared.Reading.TheVariants as reading
 use Rattle.hbc_function_header.specs.Header.{header_at, function_at}
 use Rattle.hbc_function.specs.Table.{Table, ReadFunctions}
 use Rattle.hbc_function_bytes.specs.Bytes.{goes_inline}
-use Rattle.hbc_function_write.specs.declared.Wrote.TheVariants as wrote
 use Rattle.hbc_function_write.specs.Write.{rounded, place_at, table_end, WriteFunctions}
 use Rattle.hbc_claims_law.specs.Terms.{Either, Behind, flagged, packed_at}
 
@@ -22,7 +20,7 @@ Words s = (k : ℕ) → get_or s k 0 < 2 ^ 32
 -- given: rows of u32 words, and an accepted write of them, which answers e
 pub record Written (rows : List ℕ) (layout : Layout) (start count large : ℕ) (before : List ℕ) (e : ℕ) (after : List ℕ) : Type 0 where
   pub words : Words rows
-  pub write : WriteFunctions rows layout start count large before (wrote.To e) after
+  pub write : WriteFunctions rows layout start count large before (Ok e) after
 
 -- row i as it is read back: the record's words of the row that was written, and the place where its large header was put, or 2^32 - 1 if it has none
 abbrev pub back_at : Layout → (ℕ → List ℕ) → ℕ → ℕ → List ℕ
@@ -31,8 +29,8 @@ back_at layout f large i = take record_width (f i) ++ cond (goes_inline layout (
 -- then: read into any table with room for the rows, s is accepted: those rows, and behind them every word as it was
 abbrev pub ReadsBack : List ℕ → Layout → ℕ → ℕ → ℕ → List ℕ → Type 0
 ReadsBack rows layout start count large s =
-    (t t' : Table) (r : Reading) → count * width ≤ length t.rows → ReadFunctions s layout start count t r t'
-    → (r ≡ reading.Read) × ((i : ℕ) → i < count → row_at width t'.rows i ≡ back_at layout (row_at width rows) large i)
+    (t t' : Table) (r : Result (Unit {0}) Refusal) → count * width ≤ length t.rows → ReadFunctions s layout start count t r t'
+    → (r ≡ Ok tt) × ((i : ℕ) → i < count → row_at width t'.rows i ≡ back_at layout (row_at width rows) large i)
     × Behind (count * width) t.rows t'.rows
 
 -- rows below the count have the same words of their records, whatever their places

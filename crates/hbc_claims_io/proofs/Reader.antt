@@ -11,11 +11,8 @@ use contract.Lifetimes.{Lfts}
 use contract.Monad.{Fun, fact}
 use Rattle.std.specs.Borrow.{Bor, MutBor}
 use denote.Triple.Both.{Both}
-use Rattle.hbc_io.specs.declared.Moved.{Moved}
-use Rattle.hbc_io.specs.declared.ReadU32.{ReadU32}
-use Rattle.hbc_io.specs.declared.ReadSpan.{ReadSpan}
 use Rattle.hbc_io.specs.declared.Span.{Span}
-use Rattle.hbc_io_leb.specs.declared.ReadUleb.{ReadUleb}
+use Rattle.hbc_io_leb.specs.declared.Uleb.{Uleb}
 use Rattle.hbc_reader.specs.declared.ByteReader.{ByteReader}
 use Rattle.hbc_reader.specs.contracts.ByteReader.new as of_new
 use Rattle.hbc_reader.specs.contracts.ByteReader.position as of_position
@@ -25,10 +22,9 @@ use Rattle.hbc_reader.specs.contracts.ByteReader.read_u32 as of_read_u32
 use Rattle.hbc_reader.specs.contracts.ByteReader.read_uleb128 as of_read_uleb128
 use Rattle.hbc_reader.specs.contracts.ByteReader.read_bytes as of_read_bytes
 use Rattle.hbc_reader.specs.contracts.ByteReader.part as of_part
-use Rattle.hbc_io.proofs.Alone.{one_u32, one_span, one_moved, one_part}
-use Rattle.hbc_io_leb.proofs.Alone.{one_uleb}
+use Rattle.hbc_io.proofs.Alone.{one_read, one_moved, one_part}
 use Rattle.hbc_claims_law.proofs.Law.{same}
-use Rattle.hbc_claims_io.specs.Reader.{Lent, LentMut, New, Position, Remaining, Seek, U32, Uleb128, Bytes, Part, Unique}
+use Rattle.hbc_claims_io.specs.Reader.{Lent, LentMut, Read, Move, New, Position, Remaining, Seek, U32, Uleb128, Bytes, Part, Unique}
 
 -- ---- each clause is its fact
 
@@ -42,18 +38,18 @@ module _ {M : Type 1} {𝓤 : Ura M} (𝓛 : Logic 𝓤) (mem : Memory → SProp
   pub remaining_clause : (κs : Lfts 2) (a : Bor ByteReader) (b : Lent) (r : ℕ) → of_remaining.ensures-1 𝓛 κs mem run a b r ≡ fact 𝓤 (Remaining b.entry.now r)
   remaining_clause κs a b r = refl
 
-  pub seek_clause : (κs : Lfts 2) (a : MutBor ByteReader) (to : ℕ) (b : LentMut) (t : Both ℕ ℕ) (r : Moved)
+  pub seek_clause : (κs : Lfts 2) (a : MutBor ByteReader) (to : ℕ) (b : LentMut) (t : Both ℕ ℕ) (r : Move)
       → of_seek.ensures-1 𝓛 κs mem run a to b t r ≡ fact 𝓤 (Seek to b.entry.now r b.exit.now)
   seek_clause κs a to b t r = refl
 
-  pub read_u32_clause : (κs : Lfts 2) (a : MutBor ByteReader) (b : LentMut) (r : ReadU32) → of_read_u32.ensures-1 𝓛 κs mem run a b r ≡ fact 𝓤 (U32 b.entry.now r b.exit.now)
+  pub read_u32_clause : (κs : Lfts 2) (a : MutBor ByteReader) (b : LentMut) (r : Read ℕ) → of_read_u32.ensures-1 𝓛 κs mem run a b r ≡ fact 𝓤 (U32 b.entry.now r b.exit.now)
   read_u32_clause κs a b r = refl
 
-  pub read_uleb128_clause : (κs : Lfts 2) (a : MutBor ByteReader) (b : LentMut) (r : ReadUleb)
+  pub read_uleb128_clause : (κs : Lfts 2) (a : MutBor ByteReader) (b : LentMut) (r : Read Uleb)
       → of_read_uleb128.ensures-1 𝓛 κs mem run a b r ≡ fact 𝓤 (Uleb128 b.entry.now r b.exit.now)
   read_uleb128_clause κs a b r = refl
 
-  pub read_bytes_clause : (κs : Lfts 2) (a : MutBor ByteReader) (n : ℕ) (b : LentMut) (t : Both ℕ ℕ) (r : ReadSpan)
+  pub read_bytes_clause : (κs : Lfts 2) (a : MutBor ByteReader) (n : ℕ) (b : LentMut) (t : Both ℕ ℕ) (r : Read Span)
       → of_read_bytes.ensures-1 𝓛 κs mem run a n b t r ≡ fact 𝓤 (Bytes n b.entry.now r b.exit.now)
   read_bytes_clause κs a n b t r = refl
 
@@ -68,9 +64,9 @@ unique = record {
   position = λ d r q. same;
   remaining = λ d r q. same;
   seek = λ to d r q e f g h. (one_moved r q (same g.says h.says), same g.leaves h.leaves);
-  read_u32 = λ d r q e f g h. (one_u32 r q (same g.says h.says), same g.leaves h.leaves);
-  read_uleb128 = λ d r q e f g h. (one_uleb r q (same g.says h.says), same g.leaves h.leaves);
-  read_bytes = λ n d r q e f g h. (one_span r q (same g.says h.says), same g.leaves h.leaves);
+  read_u32 = λ d r q e f g h. (one_read r q (same g.says h.says), same g.leaves h.leaves);
+  read_uleb128 = λ d r q e f g h. (one_read r q (same g.says h.says), same g.leaves h.leaves);
+  read_bytes = λ n d r q e f g h. (one_read r q (same g.says h.says), same g.leaves h.leaves);
   part = λ p d r q. one_part;
-  read_u32_at = λ k a r q s u e f. one_u32 r q (same e f);
+  read_u32_at = λ k a r q s u e f. one_read r q (same e f);
 }

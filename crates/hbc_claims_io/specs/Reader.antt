@@ -1,19 +1,18 @@
 -- docs/FORMAT.md, section 2.6: of a reader's calls too, two outcomes that both meet a call's contract are one: the answer, and the reader as it is left.
 -- Each contract of a method over a reader is set out here as one fact, and the page of hbc_claims says that the contract's clause is that fact and
 -- nothing else (`reader`).
-use Rattle.std.specs.Prelude.{◌≡◌, List, ℕ}
+use Rattle.std.specs.Prelude.{◌≡◌, List, ℕ, Result}
 use Rattle.std.specs.Borrow.{Bor, MutBor}
 use denote.Triple.Both.{Both}
 use Rattle.hbc_io.specs.Outcome.{left, valued}
 use Rattle.hbc_io.specs.Plain.{plain_at, seek_to, bytes_at, IsPart}
-use Rattle.hbc_io.specs.Answers.{says_u32, says_moved, says_span}
-use Rattle.hbc_io.specs.declared.Moved.{Moved}
-use Rattle.hbc_io.specs.declared.ReadU32.{ReadU32}
-use Rattle.hbc_io.specs.declared.ReadSpan.{ReadSpan}
+use Rattle.hbc_io.specs.Answers.{says, says_moved}
+use Rattle.hbc_io.specs.declared.Cursor.{Cursor}
+use Rattle.hbc_io.specs.declared.Stopped.{Stopped}
 use Rattle.hbc_io.specs.declared.Span.{Span}
 use Rattle.hbc_io_leb.specs.Leb.{leb_bytes}
-use Rattle.hbc_io_leb.specs.Answers.{uleb_of, says_uleb}
-use Rattle.hbc_io_leb.specs.declared.ReadUleb.{ReadUleb}
+use Rattle.hbc_io_leb.specs.Answers.{uleb_of}
+use Rattle.hbc_io_leb.specs.declared.Uleb.{Uleb}
 use Rattle.hbc_reader.specs.Reader.{bytes_of, cursor_of, fresh, Reads}
 use Rattle.hbc_reader.specs.declared.ByteReader.{ByteReader}
 use Rattle.hbc_reader.proofs.read_u32_at.Reads as of_read_u32_at
@@ -38,18 +37,25 @@ Position d r = r ≡ d.pos
 abbrev pub Remaining : ByteReader → ℕ → Type 0
 Remaining d r = r ≡ left (bytes_of d) (cursor_of d)
 
+-- what a read answers, and a move
+abbrev pub Read : Type 0 → Type 0
+Read A = Result (A × Cursor) Stopped
+
+abbrev pub Move : Type 0
+Move = Result Cursor Stopped
+
 -- of a call that is lent the reader by `&mut`: before, the answer, after
-abbrev pub Seek : ℕ → ByteReader → Moved → ByteReader → Type 0
+abbrev pub Seek : ℕ → ByteReader → Move → ByteReader → Type 0
 Seek to d r e = Reads (λ s c. seek_to s c to) d (says_moved r) e
 
-abbrev pub U32 : ByteReader → ReadU32 → ByteReader → Type 0
-U32 d r e = Reads (plain_at 4) d (says_u32 r) e
+abbrev pub U32 : ByteReader → Read ℕ → ByteReader → Type 0
+U32 d r e = Reads (plain_at 4) d (says r) e
 
-abbrev pub Uleb128 : ByteReader → ReadUleb → ByteReader → Type 0
-Uleb128 d r e = Reads (λ s c. valued uleb_of (leb_bytes s c)) d (says_uleb r) e
+abbrev pub Uleb128 : ByteReader → Read Uleb → ByteReader → Type 0
+Uleb128 d r e = Reads (λ s c. valued uleb_of (leb_bytes s c)) d (says r) e
 
-abbrev pub Bytes : ℕ → ByteReader → ReadSpan → ByteReader → Type 0
-Bytes n d r e = Reads (bytes_at n) d (says_span r) e
+abbrev pub Bytes : ℕ → ByteReader → Read Span → ByteReader → Type 0
+Bytes n d r e = Reads (bytes_at n) d (says r) e
 
 abbrev pub Part : Span → ByteReader → Bor (List ℕ) → Type 0
 Part p d = IsPart d.«data» p

@@ -3,15 +3,16 @@ use Prim.Native.Nat.{ℕ, ◌≤◌, ◌<◌}
 use mathlib.Core.Path.{◌≡◌, refl, sym, ap, ◌∙◌}
 use mathlib.Core.List.{List}
 use lib.ListN.{length, get_or, take}
+use Rattle.std.specs.Prelude.{Result, Ok, Err}
 use Rattle.hbc_io.specs.Outcome.{limit, refusal_at}
 use Rattle.hbc_io.specs.Answer.{Answer, gives, refuses}
 use Rattle.hbc_io.proofs.Exits.{is_below, not_below, reached, not_given}
 use Rattle.hbc_rows.specs.Rows.{rows}
 use Rattle.hbc_table_strings.specs.Row.{string_width}
-use Rattle.hbc_text_forms.specs.declared.Text.{Text}
-use Rattle.hbc_text_forms.specs.declared.Text.TheVariants.{Length, Refused}
-use Rattle.hbc_text_forms.specs.Text.{says_text, text_answer}
-use Rattle.hbc_text_forms.proofs.Alone.{one_text}
+use Rattle.hbc_text_forms.specs.Text.{text_answer}
+use Rattle.hbc_io.proofs.Alone.{one_answer}
+use Rattle.hbc_io.specs.Answers.{answered}
+use Rattle.hbc_io.specs.declared.Refusal.{Refusal}
 use Rattle.hbc_text_forms.proofs.Exits.{room_for, room_short}
 use Rattle.hbc_json.specs.StringsJson.{texts, strings_json, strings_json_answer, StringsJson}
 use Rattle.hbc_claims_text.specs.Put.{Wrote}
@@ -42,7 +43,7 @@ module _ (s t : List ℕ) (count : ℕ) (before : List ℕ) where
   unfolding strings_json_answer
   few_asked h l = not_below _ _ _ _ h (is_below _ _ _ _ l refl)
 
-  pub puts_json : {r : Text} {after : List ℕ} → ((i : ℕ) → get_or s i 0 < 256) → StringsJson s t count before r after → PutsJson s t count before r after
+  pub puts_json : {r : Result ℕ Refusal} {after : List ℕ} → ((i : ℕ) → get_or s i 0 < 256) → StringsJson s t count before r after → PutsJson s t count before r after
   unfolding strings_json
   puts_json {r} {after} b v =
       let w : Wrote (strings_json s t count) before r after = wrote (strings_json s t count) before (λ n e. (asked n e).2) v in
@@ -51,9 +52,9 @@ module _ (s t : List ℕ) (count : ℕ) (before : List ℕ) where
         wrote = w;
         reads = λ n q. rw (w.front n q) a.reads;
         only_these = λ n q us x. a.only us (rw (w.front n q) at x);
-        accepted = λ h l m. one_text r (Length (length (strings_json s t count))) (v.says ∙ sym (room_asked h l (room_for (strings_json s t count) (length before) m)));
-        only = λ n q. let z = asked n (sym v.says ∙ ap says_text q) in (z.0, z.1);
-        too_long = λ h. one_text r (Refused (refusal_at 1 0)) (v.says ∙ sym (long_asked h));
-        too_few = λ h l. one_text r (Refused (refusal_at 11 0)) (v.says ∙ sym (few_asked h l));
-        no_room = λ h l m. one_text r (Refused (refusal_at 4 0)) (v.says ∙ sym (room_asked h l (room_short (strings_json s t count) (length before) m)));
+        accepted = λ h l m. one_answer r (Ok (length (strings_json s t count))) (v.says ∙ sym (room_asked h l (room_for (strings_json s t count) (length before) m)));
+        only = λ n q. let z = asked n (sym v.says ∙ ap answered q) in (z.0, z.1);
+        too_long = λ h. one_answer r (Err (refusal_at 1 0)) (v.says ∙ sym (long_asked h));
+        too_few = λ h l. one_answer r (Err (refusal_at 11 0)) (v.says ∙ sym (few_asked h l));
+        no_room = λ h l m. one_answer r (Err (refusal_at 4 0)) (v.says ∙ sym (room_asked h l (room_short (strings_json s t count) (length before) m)));
       }

@@ -1,12 +1,12 @@
 -- Each call leaves one outcome: its promise fixes the answer and every lent byte.
 use mathlib.Core.Path.{sym, ◌∙◌}
 use Rattle.hbc_io.proofs.Exits.{alone}
-use Rattle.hbc_text_forms.proofs.Alone.{one_text}
+use Rattle.hbc_io.proofs.Alone.{one_answer}
 use Rattle.hbc_claims_json.specs.Unique.{Unique}
 
 pub unique : Unique
 unique = record {
-  escaped_length = λ k a r q s u e f. one_text r q (e ∙ sym f);
-  escaped_text = λ k a r q s u. alone one_text;
-  strings_json = λ k a r q s u. alone one_text;
+  escaped_length = λ k a r q s u e f. one_answer r q (e ∙ sym f);
+  escaped_text = λ k a r q s u. alone one_answer;
+  strings_json = λ k a r q s u. alone one_answer;
 }

@@ -1,5 +1,6 @@
 -- docs/FORMAT.md, sections 1 to 7: the terms that the theorems are stated in and no promise cites, by layers; hbc_claims has the statements.
 use Rattle.std.specs.Prelude.{ℕ, zero, suc, ◌+◌, ◌*◌, ◌^◌, ◌≤◌, ◌<◌, ◌≡◌, List, Bool, true, false, cond, ℤ, pos, negsuc, length, get_or, eqb}
+use Rattle.std.specs.Prelude.{Option, Some, None}
 use Rattle.hbc_bits.specs.Bits.{le_at, field}
 use Rattle.hbc_io.specs.Outcome.{got, refused, cursor_at, and_then}
 use Rattle.hbc_io.specs.Answer.{gives}
@@ -18,8 +19,6 @@ use Rattle.hbc_buffer.specs.Series.{Run, run_at, after}
 use Rattle.hbc_parsing_handlers.specs.Why.{shown}
 use Rattle.hbc_parsing_handlers.specs.Handlers.{total}
 use Rattle.hbc_parsing_sections.specs.declared.Section.{Section}
-use Rattle.hbc_parsing_sections.specs.declared.Sources.{Sources}
-use Rattle.hbc_parsing_sections.specs.declared.Sources.TheVariants as src
 
 -- ---- of every layer
 
@@ -132,6 +131,6 @@ pub record Sized (p : Section) (entries bytes : ℕ) : Type 0 where
   pub ends : p.start + p.size ≡ aligned_up 4 (p.start + bytes)
 
 -- sources: given, a section of so many entries, 8 bytes each; not given, absent
-abbrev pub SourcesSized : Bool → ℕ → Sources → Type 0
-SourcesSized given n (src.Given p) = (given ≡ true) × Sized p n (8 * n)
-SourcesSized given n src.Absent = given ≡ false
+abbrev pub SourcesSized : Bool → ℕ → Option Section → Type 0
+SourcesSized given n (Some p) = (given ≡ true) × Sized p n (8 * n)
+SourcesSized given n None = given ≡ false

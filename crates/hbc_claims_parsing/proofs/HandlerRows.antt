@@ -1,4 +1,6 @@
 -- Which rows the handlers' reader lists: those of the functions whose handlers are shown, each at its own place, and nothing else is written.
+use Rattle.hbc_parsing_handlers.specs.declared.Reason.{Reason}
+use Rattle.std.specs.Prelude.{Result, Ok, Err}
 use Prim.Native.Nat.{ℕ, zero, suc, ◌+◌, ◌-◌, ◌*◌, ◌≤◌, ◌<◌}
 use mathlib.Core.Path.{◌≡◌, refl, sym, ◌∙◌}
 use mathlib.Core.List.{List}
@@ -18,10 +20,7 @@ use Rattle.hbc_function_record.specs.declared.Found.{Found}
 use Rattle.hbc_function_record.specs.Record.{flags_of}
 use Rattle.hbc_function_record.specs.Row.{width, ROW_INFO_OFFSET, ROW_FLAGS, legacy_words, modern_words, row_words, found_at}
 use Rattle.hbc_parsing_handlers.specs.declared.Table.{Table}
-use Rattle.hbc_parsing_handlers.specs.declared.Why.{Why}
-use Rattle.hbc_parsing_handlers.specs.declared.Why.TheVariants as w
 use Rattle.hbc_parsing_handlers.specs.Why.{why, shown_by, shown}
-use Rattle.hbc_parsing_handlers.specs.declared.Listed.TheVariants as l
 use Rattle.hbc_parsing_handlers.specs.Handlers.{handler_width, total, handler_row, put_handlers, handlers_answer, ReadHandlers}
 use Rattle.hbc_parsing_handlers.proofs.Laws.{good, row_length, row_short, handlers_length}
 use Rattle.hbc_claims_law.specs.Terms.{Behind, Whose}
@@ -50,18 +49,18 @@ rows_other f short base (suc n) y t out =
     at.put_other handler_width (f n) (short n) (put_rows handler_width f base n t) (base + n) y (λ p q. out (omega arith) (omega arith))
     ∙ rows_other f short base n y t (λ p q. out (omega arith) (omega arith))
 
-only_shown : (v : Why) → 0 < (shown_by v).count → (t : Table) × (v ≡ w.Shown t)
-only_shown (w.Shown t) h = (t, refl)
-only_shown (w.Hidden x) h = absurd (omega arith)
+only_shown : (v : Result Table Reason) → 0 < (shown_by v).count → (t : Table) × (v ≡ Ok t)
+only_shown (Ok t) h = (t, refl)
+only_shown (Err x) h = absurd (omega arith)
 
 module _ (s functions : List ℕ) where
   -- ---- a function has rows exactly when its handlers are shown, and then as many as that says
 
-  pub shown_rows : (i : ℕ) (t : Table) → why s functions i ≡ w.Shown t → (0 < t.count) × (total s functions (suc i) ≡ total s functions i + t.count)
+  pub shown_rows : (i : ℕ) (t : Table) → why s functions i ≡ Ok t → (0 < t.count) × (total s functions (suc i) ≡ total s functions i + t.count)
   unfolding total shown
   shown_rows i t e = (rw e at (good s functions i).some, rw e)
 
-  pub rows_shown : (i : ℕ) → 0 < (shown s functions i).count → (t : Table) × (why s functions i ≡ w.Shown t)
+  pub rows_shown : (i : ℕ) → 0 < (shown s functions i).count → (t : Table) × (why s functions i ≡ Ok t)
   unfolding shown
   rows_shown i h = only_shown (why s functions i) h
 
@@ -161,7 +160,7 @@ accept s functions count room n e =
     let r = reached _ _ _ _ not_given q.1 in
     record { short = p.0; lent = q.0; all = cc r.1; holds = r.0 }
 
-module _ (s functions : List ℕ) (count : ℕ) (t : List ℕ) (n : ℕ) (t' : List ℕ) (v : ReadHandlers s functions count t (l.Rows n) t') where
+module _ (s functions : List ℕ) (count : ℕ) (t : List ℕ) (n : ℕ) (t' : List ℕ) (v : ReadHandlers s functions count t (Ok n) t') where
   pub ok : Accepted s functions count (rows handler_width t) n
   ok = accept s functions count (rows handler_width t) n (sym v.says)
 

@@ -1,4 +1,8 @@
 -- How many of the rows that the handlers' reader lists are of one function: as many as the reason says that are shown.
+use Rattle.hbc_io.specs.declared.Refusal.{Refusal}
+use Rattle.hbc_parsing_handlers.specs.declared.Table.{Table}
+use Rattle.hbc_parsing_handlers.specs.declared.Reason.{Reason}
+use Rattle.std.specs.Prelude.{Result, Ok, Err}
 use Prim.Native.Nat.{ℕ, zero, suc, ◌+◌, ◌*◌, ◌≤◌, ◌<◌}
 use mathlib.Core.Path.{◌≡◌, refl, ap, sym, ◌∙◌}
 use mathlib.Core.List.{List}
@@ -8,11 +12,6 @@ use native.Mathlib.Numerals.{unary_clauses}
 use lib.Dec.{ltb, eqb}
 use borrow.Author.Tests.{eqb-true, eqb-false, ltb-true, ltb-false, lt-ltb, le-ltb}
 use Rattle.hbc_rows.specs.Rows.{entry_at}
-use Rattle.hbc_parsing_handlers.specs.declared.Why.{Why}
-use Rattle.hbc_parsing_handlers.specs.declared.Why.TheVariants.{Shown, Hidden}
-use Rattle.hbc_parsing_handlers.specs.declared.Listed.TheVariants as l
-use Rattle.hbc_parsing_handlers.specs.declared.Explained.{Explained}
-use Rattle.hbc_parsing_handlers.specs.declared.Explained.TheVariants.{By}
 use Rattle.hbc_parsing_handlers.specs.Why.{why, shown_by, shown, WhyNoHandlers}
 use Rattle.hbc_parsing_handlers.specs.Handlers.{handler_width, total, handler_row, ReadHandlers}
 use Rattle.hbc_claims_law.specs.Terms.{count_of}
@@ -35,7 +34,7 @@ module _ (chosen : ℕ → Bool) (base : ℕ) where
       let p = run_of false c (λ j h. all j (omega arith)) in
       simp (unary_clauses, all c (omega arith)) (omega (arith, p))
 
-module _ (s functions : List ℕ) (count : ℕ) (t : List ℕ) (n : ℕ) (t' : List ℕ) (v : ReadHandlers s functions count t (l.Rows n) t') where
+module _ (s functions : List ℕ) (count : ℕ) (t : List ℕ) (n : ℕ) (t' : List ℕ) (v : ReadHandlers s functions count t (Ok n) t') where
   -- the first word of a row is its function
   first_word : (i j : ℕ) → i < count → j < (shown s functions i).count → entry_at t' ((total s functions i + j) * handler_width) ≡ i
   unfolding entry_at handler_row
@@ -73,23 +72,23 @@ module _ (s functions : List ℕ) (count : ℕ) (t : List ℕ) (n : ℕ) (t' : L
       by : ltb id count ≡ true → cond (ltb id count) (shown s functions id).count 0 ≡ (shown s functions id).count
       by e = rw e
 
-  module _ (id : ℕ) (r : Explained) (h : id < count) (q : WhyNoHandlers s functions id r) where
-    is_why : r ≡ By (why s functions id)
+  module _ (id : ℕ) (r : Result (Result Table Reason) Refusal) (h : id < count) (q : WhyNoHandlers s functions id r) where
+    is_why : r ≡ Ok (why s functions id)
     is_why = accepted s functions id r q ((ok s functions count t n t' v).short, omega (arith, (ok s functions count t n t' v).lent))
 
-    the_why : (x : Why) → r ≡ By x → why s functions id ≡ x
+    the_why : (x : Result Table Reason) → r ≡ Ok x → why s functions id ≡ x
     the_why x e = cc (sym is_why ∙ e)
 
-    of_why : (x : Why) → why s functions id ≡ x → count_of (is_of t' id) n ≡ (shown_by x).count
+    of_why : (x : Result Table Reason) → why s functions id ≡ x → count_of (is_of t' id) n ≡ (shown_by x).count
     unfolding shown
-    of_why x e = all_rows id h ∙ ap (λ (y : Why). (shown_by y).count) e
+    of_why x e = all_rows id h ∙ ap (λ (y : Result Table Reason). (shown_by y).count) e
 
     pub lists : Lists id r n t'
     unfolding shown
     lists = record {
       accepted = (why s functions id, is_why);
-      shown = λ w e. of_why (Shown w) (the_why (Shown w) e);
-      some = λ w e. rw (of_why (Shown w) (the_why (Shown w) e)) (shown_rows s functions id w (the_why (Shown w) e)).0;
-      only = λ k. let p = rows_shown s functions id (rw (← all_rows id h) k) in (p.0, is_why ∙ ap By p.1);
-      none = λ x e. of_why (Hidden x) (the_why (Hidden x) e);
+      shown = λ w e. of_why (Ok w) (the_why (Ok w) e);
+      some = λ w e. rw (of_why (Ok w) (the_why (Ok w) e)) (shown_rows s functions id w (the_why (Ok w) e)).0;
+      only = λ k. let p = rows_shown s functions id (rw (← all_rows id h) k) in (p.0, is_why ∙ ap Ok p.1);
+      none = λ x e. of_why (Err x) (the_why (Err x) e);
     }

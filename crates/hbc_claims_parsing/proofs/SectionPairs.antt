@@ -1,4 +1,5 @@
 -- Every section that the sections' call answers is read by the pair call.
+use Rattle.std.specs.Prelude.{Ok, Option, Some, None}
 use Prim.Native.Nat.{ℕ, ◌+◌, ◌-◌, ◌*◌, ◌≤◌}
 use mathlib.Core.Path.{◌≡◌, ap, ◌∙◌}
 use mathlib.Core.List.{List}
@@ -10,14 +11,11 @@ use Rattle.hbc_io.specs.Outcome.{Outcome, got, cursor_at, limit}
 use Rattle.hbc_io.specs.Answer.{told}
 use Rattle.hbc_io.specs.Lends.{below, written}
 use Rattle.hbc_io.specs.declared.Cursor.{Cursor}
-use Rattle.hbc_io.specs.declared.Moved.TheVariants as moved
 use Rattle.hbc_io.proofs.Alone.{one_moved}
 use Rattle.hbc_io.proofs.Exits.{words}
 use Rattle.hbc_rows.specs.Rows.{filled}
 use Rattle.hbc_table.specs.Table.{words_from, words_at}
 use Rattle.hbc_parsing_sections.specs.declared.Section.{Section}
-use Rattle.hbc_parsing_sections.specs.declared.Sources.{Sources}
-use Rattle.hbc_parsing_sections.specs.declared.Sources.TheVariants as src
 use Rattle.hbc_parsing_sections.specs.declared.Sections.{Sections}
 use Rattle.hbc_parsing_sections.specs.Sections.{sections_at}
 use Rattle.hbc_parsing_sections.specs.Laid.{There, SourcesThere}
@@ -39,13 +37,13 @@ accepted s at entries room h r k =
 fits : (s : List ℕ) (p : Section) → length s ≤ limit → There s p → Fits s p
 fits s p h r t q t' k v =
     let e = accepted s p.start p.entries (length t) h r k in (
-      one_moved q (moved.To (cursor_at (p.start + 4 * (2 * p.entries)))) (v.says ∙ e),
+      one_moved q (Ok (cursor_at (p.start + 4 * (2 * p.entries)))) (v.says ∙ e),
       words v ∙ ap (λ (o : Outcome (Unit {0})). written (told o) (filled (words_from s p.start) (2 * p.entries) t) t) e,
     )
 
-sources_fit : (s : List ℕ) (v : Sources) → length s ≤ limit → SourcesThere s v → SourcesFit s v
-sources_fit s (src.Given p) h r = fits s p h r
-sources_fit s src.Absent h r = tt
+sources_fit : (s : List ℕ) (v : Option Section) → length s ≤ limit → SourcesThere s v → SourcesFit s v
+sources_fit s (Some p) h r = fits s p h r
+sources_fit s None h r = tt
 
 pub sections_fit : (start regexps storage cjs : ℕ) (given : Bool) (sources : ℕ) (s : List ℕ) (v : Sections) (n : Cursor)
     → sections_at start regexps storage cjs given sources s ≡ got v n → Fits s v.regexps × Fits s v.cjs × SourcesFit s v.sources

@@ -1,4 +1,5 @@
 -- Every section that the sections' call answers has the entries that were asked for, and the size of its bytes with their padding.
+use Rattle.std.specs.Prelude.{Option, Some, None}
 use Prim.Native.Nat.{ℕ, ◌+◌, ◌-◌, ◌*◌, ◌≤◌}
 use mathlib.Core.Path.{◌≡◌, refl, ap, sym, ◌∙◌}
 use mathlib.Core.List.{List}
@@ -12,8 +13,6 @@ use Rattle.hbc_io.proofs.Reading.{same_got, then_got, valued_got}
 use Rattle.hbc_io.proofs.Plains.{bytes_got}
 use Rattle.hbc_io.proofs.Aligns.{aligned}
 use Rattle.hbc_parsing_sections.specs.declared.Section.{Section}
-use Rattle.hbc_parsing_sections.specs.declared.Sources.{Sources}
-use Rattle.hbc_parsing_sections.specs.declared.Sources.TheVariants as src
 use Rattle.hbc_parsing_sections.specs.declared.Sections.{Sections}
 use Rattle.hbc_parsing_sections.specs.Sections.{section, section_at, pairs_at, sources_at, sections_from, sections_at}
 use Rattle.hbc_parsing_sections.proofs.Laws.{section_on}
@@ -46,12 +45,12 @@ pairs_sized : (s : List ℕ) (count : ℕ) (c : Cursor) (p : Section) (next : Cu
 unfolding pairs_at
 pairs_sized s count c p next e = section_sized s (8 * count) count c p next e
 
-sources_sized : (given : Bool) (s : List ℕ) (count : ℕ) (c : Cursor) (v : Sources) (next : Cursor) → sources_at given count s c ≡ got v next → SourcesSized given count v
+sources_sized : (given : Bool) (s : List ℕ) (count : ℕ) (c : Cursor) (v : Option Section) (next : Cursor) → sources_at given count s c ≡ got v next → SourcesSized given count v
 unfolding sources_at
 sources_sized true s count c v next e =
-    let a = valued_got src.Given (pairs_at count s c) v next e in
+    let a = valued_got Some (pairs_at count s c) v next e in
     rw a.2 (refl, pairs_sized s count c a.0 next a.1)
-sources_sized false s count c v next e = let z = same_got src.Absent v c next e in rw (← z.0) refl
+sources_sized false s count c v next e = let z = same_got None v c next e in rw (← z.0) refl
 
 -- ---- all of them
 

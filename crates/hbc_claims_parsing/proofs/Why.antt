@@ -1,4 +1,6 @@
 -- The reason is true of the file, and the first that is.
+use Rattle.hbc_io.specs.declared.Refusal.{Refusal}
+use Rattle.std.specs.Prelude.{Result, Ok, Err}
 use Prim.Native.Nat.{ℕ, suc, ◌+◌, ◌-◌, ◌*◌, ◌%◌, ◌≤◌, ◌<◌}
 use mathlib.Core.Path.{◌≡◌, refl, ap, sym, subst, ◌∙◌}
 use mathlib.Core.List.{List}
@@ -11,17 +13,14 @@ use Rattle.hbc_bits.specs.Bits.{le_at, field}
 use Rattle.hbc_io.specs.Outcome.{refusal_at}
 use Rattle.hbc_io.specs.Lends.{below, choose}
 use Rattle.hbc_io.specs.Plain.{aligned_up}
+use Rattle.hbc_io.specs.Answers.{answered}
+use Rattle.hbc_io.proofs.Alone.{one_answer}
 use Rattle.hbc_io.proofs.Exits.{is_below, not_below, reached, not_given}
 use Rattle.hbc_parsing_handlers.specs.declared.Table.{Table}
 use Rattle.hbc_parsing_handlers.specs.declared.Reason.{Reason}
 use Rattle.hbc_parsing_handlers.specs.declared.Reason.TheVariants as r
-use Rattle.hbc_parsing_handlers.specs.declared.Why.{Why}
-use Rattle.hbc_parsing_handlers.specs.declared.Why.TheVariants.{Shown, Hidden}
-use Rattle.hbc_parsing_handlers.specs.declared.Explained.{Explained}
-use Rattle.hbc_parsing_handlers.specs.declared.Explained.TheVariants.{By, Refused}
-use Rattle.hbc_parsing_handlers.specs.Why.{table, counted, table_at, why_at, info_in, flags_in, why, reason_number, says_explained, why_answer, WhyNoHandlers}
+use Rattle.hbc_parsing_handlers.specs.Why.{table, counted, table_at, why_at, info_in, flags_in, why, reason_number, why_answer, WhyNoHandlers}
 use Rattle.hbc_claims_parsing.specs.Why.{Rounded, Counts, Says, First, Shows, Asked, Explains}
-use Rattle.hbc_claims_parsing.proofs.Unique.{one_explained}
 
 -- ---- a reason's number is its own
 
@@ -88,13 +87,13 @@ module _ (s : List ℕ) (info flags : ℕ) where
       by false e = let z : (reason_number y ≡ reason_number x → ⊥) = eqb-false _ _ e in p y (omega arith) v
 
   -- what is known of an answer
-  abbrev Known : Why → Type 0
-  Known (Shown t) = Shows s info flags t
-  Known (Hidden x) = First s info flags x
+  abbrev Known : Result Table Reason → Type 0
+  Known (Ok t) = Shows s info flags t
+  Known (Err x) = First s info flags x
 
   -- a test that decides whether a reason is true, and what follows where it is not
-  step : (b : Bool) (x : Reason) (o : Why) → Past (reason_number x) → (b ≡ true → Says s info flags x) → (b ≡ false → Says s info flags x → ⊥)
-      → (b ≡ false → Past (suc (reason_number x)) → Known o) → Known (cond b (Hidden x) o)
+  step : (b : Bool) (x : Reason) (o : Result Table Reason) → Past (reason_number x) → (b ≡ true → Says s info flags x) → (b ≡ false → Says s info flags x → ⊥)
+      → (b ≡ false → Past (suc (reason_number x)) → Known o) → Known (cond b (Err x) o)
   step true x o p holds never on = record { holds = holds refl; none = p }
   step false x o p holds never on = on refl (past_more x p (never refl))
 
@@ -155,38 +154,38 @@ module _ (s : List ℕ) (info flags : ℕ) where
           let l = ltb-false (reason_number y) (reason_number x) k in
           same_reason x y (omega arith)
 
-  only_first : (v : Why) → Known v → (x : Reason) → First s info flags x → v ≡ Hidden x
-  only_first (Shown t) k x f = absurd (k.none x f.holds)
-  only_first (Hidden y) k x f = ap Hidden (one_first k f)
+  only_first : (v : Result Table Reason) → Known v → (x : Reason) → First s info flags x → v ≡ Err x
+  only_first (Ok t) k x f = absurd (k.none x f.holds)
+  only_first (Err y) k x f = ap Err (one_first k f)
 
-  only_none : (v : Why) → Known v → ((x : Reason) → Says s info flags x → ⊥) → (t : Table) × (v ≡ Shown t)
-  only_none (Shown t) k n = (t, refl)
-  only_none (Hidden y) k n = absurd (n y k.holds)
+  only_none : (v : Result Table Reason) → Known v → ((x : Reason) → Says s info flags x → ⊥) → (t : Table) × (v ≡ Ok t)
+  only_none (Ok t) k n = (t, refl)
+  only_none (Err y) k n = absurd (n y k.holds)
 
 -- ---- from the call's promise
 
 module _ (s functions : List ℕ) (id : ℕ) where
-  is_known : (x : Why) → why s functions id ≡ x → Known s (info_in functions id) (flags_in functions id) x
+  is_known : (x : Result Table Reason) → why s functions id ≡ x → Known s (info_in functions id) (flags_in functions id) x
   unfolding why
   is_known x e = subst (Known s (info_in functions id) (flags_in functions id)) e (known s (info_in functions id) (flags_in functions id))
 
-  record Answered (x : Why) : Type 0 where
+  record Answered (x : Result Table Reason) : Type 0 where
     asked : Asked s functions id
     is : why s functions id ≡ x
 
-  module _ (r : Explained) (v : WhyNoHandlers s functions id r) where
+  module _ (r : Result (Result Table Reason) Refusal) (v : WhyNoHandlers s functions id r) where
     -- what is due is answered
-    due : (q : Explained) → says_explained q ≡ why_answer s functions id → r ≡ q
-    due q e = one_explained r q (v ∙ sym e)
+    due : (q : Result (Result Table Reason) Refusal) → answered q ≡ why_answer s functions id → r ≡ q
+    due q e = one_answer r q (v ∙ sym e)
 
-    pub accepted : Asked s functions id → r ≡ By (why s functions id)
+    pub accepted : Asked s functions id → r ≡ Ok (why s functions id)
     unfolding why_answer
-    accepted a = due (By (why s functions id)) (not_below _ _ _ _ a.0 (not_below _ _ _ _ a.1 refl))
+    accepted a = due (Ok (why s functions id)) (not_below _ _ _ _ a.0 (not_below _ _ _ _ a.1 refl))
 
-    answered : (x : Why) → r ≡ By x → Answered x
+    was_answered : (x : Result Table Reason) → r ≡ Ok x → Answered x
     unfolding why_answer
-    answered x e =
-        let p = reached _ _ _ _ not_given (sym v ∙ ap says_explained e) in
+    was_answered x e =
+        let p = reached _ _ _ _ not_given (sym v ∙ ap answered e) in
         let q = reached _ _ _ _ not_given p.1 in
         record { asked = (p.0, q.0); is = cc q.1 }
 
@@ -194,11 +193,11 @@ module _ (s functions : List ℕ) (id : ℕ) where
     unfolding why_answer
     explains = record {
       accepted = λ a. (why s functions id, accepted a);
-      only = λ x e. (answered x e).asked;
-      too_long = λ h. due (Refused (refusal_at 1 0)) (is_below _ _ _ _ h refl);
-      no_row = λ h k. due (Refused (refusal_at 11 0)) (not_below _ _ _ _ h (is_below _ _ _ _ (omega arith) refl));
-      reason = λ x e. is_known (Hidden x) (answered (Hidden x) e).is;
-      first = λ a x f. accepted a ∙ ap By (only_first s (info_in functions id) (flags_in functions id) (why s functions id) (is_known _ refl) x f);
-      shown = λ t e. is_known (Shown t) (answered (Shown t) e).is;
-      none = λ a n. let p = only_none s (info_in functions id) (flags_in functions id) (why s functions id) (is_known _ refl) n in (p.0, accepted a ∙ ap By p.1);
+      only = λ x e. (was_answered x e).asked;
+      too_long = λ h. due (Err (refusal_at 1 0)) (is_below _ _ _ _ h refl);
+      no_row = λ h k. due (Err (refusal_at 11 0)) (not_below _ _ _ _ h (is_below _ _ _ _ (omega arith) refl));
+      reason = λ x e. is_known (Err x) (was_answered (Err x) e).is;
+      first = λ a x f. accepted a ∙ ap Ok (only_first s (info_in functions id) (flags_in functions id) (why s functions id) (is_known _ refl) x f);
+      shown = λ t e. is_known (Ok t) (was_answered (Ok t) e).is;
+      none = λ a n. let p = only_none s (info_in functions id) (flags_in functions id) (why s functions id) (is_known _ refl) n in (p.0, accepted a ∙ ap Ok p.1);
     }

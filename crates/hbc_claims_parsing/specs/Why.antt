@@ -1,5 +1,6 @@
 -- docs/FORMAT.md, section 6.1: what each reason says of the file, and what the call that names one answers.
-use Rattle.std.specs.Prelude.{ℕ, ◌+◌, ◌*◌, ◌%◌, ◌≤◌, ◌<◌, ◌≡◌, List, Bool, length, eqb}
+use Rattle.hbc_io.specs.declared.Refusal.{Refusal}
+use Rattle.std.specs.Prelude.{Result, Ok, Err, ℕ, ◌+◌, ◌*◌, ◌%◌, ◌≤◌, ◌<◌, ◌≡◌, List, Bool, length, eqb}
 use Rattle.hbc_bits.specs.Bits.{le_at, field}
 use Rattle.hbc_io.specs.Outcome.{limit, refusal_at}
 use Rattle.hbc_rows.specs.Rows.{rows, entry_at}
@@ -7,10 +8,6 @@ use Rattle.hbc_function_record.specs.Row.{width}
 use Rattle.hbc_parsing_handlers.specs.declared.Table.{Table}
 use Rattle.hbc_parsing_handlers.specs.declared.Reason.{Reason}
 use Rattle.hbc_parsing_handlers.specs.declared.Reason.TheVariants as r
-use Rattle.hbc_parsing_handlers.specs.declared.Why.{Why}
-use Rattle.hbc_parsing_handlers.specs.declared.Why.TheVariants.{Shown, Hidden}
-use Rattle.hbc_parsing_handlers.specs.declared.Explained.{Explained}
-use Rattle.hbc_parsing_handlers.specs.declared.Explained.TheVariants.{By, Refused}
 use Rattle.hbc_parsing_handlers.specs.Why.{info_in, flags_in, reason_number}
 use Rattle.hbc_parsing_handlers.specs.Handlers.{handler_width}
 use Rattle.hbc_claims_law.specs.Terms.{Bit, count_of}
@@ -69,18 +66,18 @@ pub record Shows (s : List ℕ) (info flags : ℕ) (t : Table) : Type 0 where
 abbrev pub Asked : List ℕ → List ℕ → ℕ → Type 0
 Asked s functions id = (length s ≤ limit) × (id < rows width functions)
 
-pub record Explains (s functions : List ℕ) (id : ℕ) (r : Explained) : Type 0 where
+pub record Explains (s functions : List ℕ) (id : ℕ) (r : Result (Result Table Reason) Refusal) : Type 0 where
   -- refused exactly where the file is too long or the function has no row, and 1 comes before 11
-  pub accepted : Asked s functions id → (v : Why) × (r ≡ By v)
-  pub only : (v : Why) → r ≡ By v → Asked s functions id
-  pub too_long : limit < length s → r ≡ Refused (refusal_at 1 0)
-  pub no_row : length s ≤ limit → rows width functions ≤ id → r ≡ Refused (refusal_at 11 0)
+  pub accepted : Asked s functions id → (v : Result Table Reason) × (r ≡ Ok v)
+  pub only : (v : Result Table Reason) → r ≡ Ok v → Asked s functions id
+  pub too_long : limit < length s → r ≡ Err (refusal_at 1 0)
+  pub no_row : length s ≤ limit → rows width functions ≤ id → r ≡ Err (refusal_at 11 0)
   -- a reason exactly where it is the first that is true
-  pub reason : (x : Reason) → r ≡ By (Hidden x) → First s (info_in functions id) (flags_in functions id) x
-  pub first : Asked s functions id → (x : Reason) → First s (info_in functions id) (flags_in functions id) x → r ≡ By (Hidden x)
+  pub reason : (x : Reason) → r ≡ Ok (Err x) → First s (info_in functions id) (flags_in functions id) x
+  pub first : Asked s functions id → (x : Reason) → First s (info_in functions id) (flags_in functions id) x → r ≡ Ok (Err x)
   -- handlers shown exactly where none is
-  pub shown : (t : Table) → r ≡ By (Shown t) → Shows s (info_in functions id) (flags_in functions id) t
-  pub none : Asked s functions id → ((x : Reason) → Says s (info_in functions id) (flags_in functions id) x → ⊥) → (t : Table) × (r ≡ By (Shown t))
+  pub shown : (t : Table) → r ≡ Ok (Ok t) → Shows s (info_in functions id) (flags_in functions id) t
+  pub none : Asked s functions id → ((x : Reason) → Says s (info_in functions id) (flags_in functions id) x → ⊥) → (t : Table) × (r ≡ Ok (Ok t))
 
 -- ---- beside the n rows that the handlers' reader lists in t
 
@@ -88,11 +85,11 @@ pub record Explains (s functions : List ℕ) (id : ℕ) (r : Explained) : Type 0
 abbrev pub is_of : List ℕ → ℕ → ℕ → Bool
 is_of t id k = eqb (entry_at t (k * handler_width)) id
 
-pub record Lists (id : ℕ) (r : Explained) (n : ℕ) (t : List ℕ) : Type 0 where
+pub record Lists (id : ℕ) (r : Result (Result Table Reason) Refusal) (n : ℕ) (t : List ℕ) : Type 0 where
   -- the call is not refused; shown with so many handlers, the function has exactly so many rows, and at least one; it is shown where the function has a
   -- row; for a reason the function has none
-  pub accepted : (v : Why) × (r ≡ By v)
-  pub shown : (w : Table) → r ≡ By (Shown w) → count_of (is_of t id) n ≡ w.count
-  pub some : (w : Table) → r ≡ By (Shown w) → 0 < count_of (is_of t id) n
-  pub only : 0 < count_of (is_of t id) n → (w : Table) × (r ≡ By (Shown w))
-  pub none : (x : Reason) → r ≡ By (Hidden x) → count_of (is_of t id) n ≡ 0
+  pub accepted : (v : Result Table Reason) × (r ≡ Ok v)
+  pub shown : (w : Table) → r ≡ Ok (Ok w) → count_of (is_of t id) n ≡ w.count
+  pub some : (w : Table) → r ≡ Ok (Ok w) → 0 < count_of (is_of t id) n
+  pub only : 0 < count_of (is_of t id) n → (w : Table) × (r ≡ Ok (Ok w))
+  pub none : (x : Reason) → r ≡ Ok (Err x) → count_of (is_of t id) n ≡ 0

@@ -16,14 +16,14 @@ use Rattle.hbc_rows.specs.Rows.{entry_at, put_rows}
 use Rattle.hbc_table_strings.specs.declared.Mode.{Mode}
 use Rattle.hbc_table_strings.specs.declared.Mode.TheVariants.{InOrder, Hermes}
 use Rattle.hbc_table_strings.specs.declared.kinds.Held.{Held}
-use Rattle.hbc_table_strings.specs.declared.Decoded.{Decoded}
 use Rattle.hbc_table_strings.specs.Kinds.{run_kind, holding, moved_on, held_at, kind_of}
 use Rattle.hbc_table_strings.specs.Hermes.{run_length, lengths, kind_in}
 use Rattle.hbc_table_strings.specs.Entries.{long_one, offset_of, units_of, pairs_taken, pair_of, lacks_pair, entry_of}
 use Rattle.hbc_table_strings.specs.Row.{string_width, row_with, row_of}
 use Rattle.hbc_table_strings.specs.Strings.{scan, lesser, decode_answer, words_of, decoded_rows, DecodeStrings}
 use Rattle.hbc_table_strings.proofs.Runs as runs
-use Rattle.hbc_table_strings.proofs.Alone.{one_decoded}
+use Rattle.std.specs.Prelude.{Result}
+use Rattle.hbc_io.proofs.Alone.{one_answer}
 use Rattle.hbc_claims_table.proofs.Strings.{turn, accept}
 use Rattle.hbc_claims_table.specs.Modes.{ByLengths, PairsThere, FirstLacking, Tidy, AsHermes}
 use Rattle.hbc_claims_table.specs.Before as was
@@ -192,12 +192,12 @@ module _ (kinds small overflow : List ℕ) where
         row_same (entry_at small i) (kind_in Hermes kinds i) overflow (pairs_taken small i) (offset_of (entry_at small i)) storage (λ u. sym (v.own i h u)),
       )
 
-  pub modes_agree : (count : ℕ) (storage before : List ℕ) (r q : Decoded) (t u : List ℕ) → Tidy kinds small (lesser count (length small))
+  pub modes_agree : (count : ℕ) (storage before : List ℕ) (r q : Result ℕ Refusal) (t u : List ℕ) → Tidy kinds small (lesser count (length small))
       → DecodeStrings InOrder count kinds small overflow storage before r t → DecodeStrings Hermes count kinds small overflow storage before q u → (r ≡ q) × (t ≡ u)
   unfolding decode_answer
   modes_agree count storage before r q t u v a b =
       let e : decode_answer InOrder count small overflow storage before ≡ decode_answer Hermes count small overflow storage before = answers in
-      let z = one_decoded r q (a.says ∙ e ∙ sym b.says) in
+      let z = one_answer r q (a.says ∙ e ∙ sym b.says) in
       (z, a.leaves ∙ rw (z, rows_same) (sym b.leaves))
     where
       answers : decode_answer InOrder count small overflow storage before ≡ decode_answer Hermes count small overflow storage before
@@ -229,12 +229,12 @@ module _ (kinds small overflow : List ℕ) where
   rows_before : (storage n : ℕ) (before : List ℕ) → decoded_rows InOrder kinds small overflow storage n before ≡ was.decoded_rows kinds small overflow storage n before
   rows_before storage n before = put_same string_width _ _ 0 before n (λ i h. words_before storage i)
 
-  pub as_before : (count : ℕ) (storage before : List ℕ) (r : Decoded) (t : List ℕ) → DecodeStrings InOrder count kinds small overflow storage before r t
+  pub as_before : (count : ℕ) (storage before : List ℕ) (r : Result ℕ Refusal) (t : List ℕ) → DecodeStrings InOrder count kinds small overflow storage before r t
       → was.DecodeStrings count kinds small overflow storage before r t
   as_before count storage before r t v =
       record { says = v.says ∙ answer_before count storage before; leaves = v.leaves ∙ rw (rows_before (length storage) (lesser count (length small)) before) }
 
-  pub before_as : (count : ℕ) (storage before : List ℕ) (r : Decoded) (t : List ℕ) → was.DecodeStrings count kinds small overflow storage before r t
+  pub before_as : (count : ℕ) (storage before : List ℕ) (r : Result ℕ Refusal) (t : List ℕ) → was.DecodeStrings count kinds small overflow storage before r t
       → DecodeStrings InOrder count kinds small overflow storage before r t
   before_as count storage before r t v =
       record { says = v.says ∙ sym (answer_before count storage before); leaves = v.leaves ∙ rw (rows_before (length storage) (lesser count (length small)) before) }

@@ -16,7 +16,7 @@ use Rattle.hbc_rows.specs.Rows.{rows, row_at}
 use Rattle.hbc_rows.proofs.RowsAt.{rows_length, rows_apart, row_put, row_fits}
 use Rattle.hbc_table_strings.specs.declared.Mode.{Mode}
 use Rattle.hbc_table_strings.specs.declared.row.StringRow.{StringRow}
-use Rattle.hbc_table_strings.specs.declared.Decoded.TheVariants.{Rows}
+use Rattle.std.specs.Prelude.{Ok}
 use Rattle.hbc_table_strings.specs.Entries.{lacks_pair}
 use Rattle.hbc_table_strings.specs.Row.{string_words, string_width, valid, invalid, row_for, row_with, row_of}
 use Rattle.hbc_table_strings.specs.Strings.{scan, lesser, decode_answer, words_of, decoded_rows, DecodeStrings}
@@ -94,7 +94,7 @@ bytes_at s t k r h e w = rw (lt-ltb k (rows string_width t) h, e) (part_by s r w
 
 -- ---- all of them
 
-module _ (mode : Mode) (count : ℕ) (kinds small overflow storage before after : List ℕ) (n : ℕ) (v : DecodeStrings mode count kinds small overflow storage before (Rows n) after) where
+module _ (mode : Mode) (count : ℕ) (kinds small overflow storage before after : List ℕ) (n : ℕ) (v : DecodeStrings mode count kinds small overflow storage before (Ok n) after) where
   ok : Accepted mode count small overflow before n
   ok = accept mode count small overflow storage before n (sym v.says)
 

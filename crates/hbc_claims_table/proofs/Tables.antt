@@ -10,7 +10,7 @@ use Rattle.hbc_io.specs.Outcome.{Outcome, got, refused, cursor_at, limit, left}
 use Rattle.hbc_io.specs.Lends.{below}
 use Rattle.hbc_io.specs.declared.Cursor.{Cursor}
 use Rattle.hbc_io.specs.declared.Refusal.{Refusal}
-use Rattle.hbc_io.specs.declared.Moved.TheVariants.{To, Refused}
+use Rattle.std.specs.Prelude.{Ok, Err}
 use Rattle.hbc_io.proofs.Exits.{reached}
 use Rattle.hbc_io.proofs.Reading.{not_both}
 use Rattle.hbc_rows.specs.Rows.{entry_at}
@@ -38,7 +38,7 @@ got_words bytes s c n words next e =
     let w = reached _ _ _ _ no_got u.1 in
     record { room = u.0; moves = cc w.1 }
 
-module _ (width : ℕ) (s : List ℕ) (c : Cursor) (count : ℕ) (before after : List ℕ) (next : Cursor) (v : ReadTable width s c count before (To next) after) where
+module _ (width : ℕ) (s : List ℕ) (c : Cursor) (count : ℕ) (before after : List ℕ) (next : Cursor) (v : ReadTable width s c count before (Ok next) after) where
   accepted : Got c (width * count) (length before) next
   accepted = got_words (4 * width) s c (width * count) (length before) next (sym v.says)
 
@@ -70,6 +70,6 @@ words_left bytes s c n words r stays e =
 
 -- and the table
 pub table_left : (width : ℕ) (s : List ℕ) (c : Cursor) (count : ℕ) (before after : List ℕ) (k : Refusal) (stays : Cursor)
-    → ReadTable width s c count before (Refused k stays) after → TableLeft c before stays after
+    → ReadTable width s c count before (Err (record { refusal = k; cursor = stays })) after → TableLeft c before stays after
 table_left width s c count before after k stays v =
     (v.leaves, words_left (4 * width) s c (width * count) (length before) k stays (sym v.says))

@@ -1,16 +1,17 @@
 -- docs/FORMAT.md, sections 4.3 to 4.5: decoding as it was while there was no second mode, word for word; the old mode is held against it.
-use Rattle.std.specs.Prelude.{ℕ, zero, suc, ◌+◌, ◌*◌, ◌/◌, List, Bool, false, cond, length, leb, eqb}
+use Rattle.std.specs.Prelude.{ℕ, zero, suc, ◌+◌, ◌*◌, ◌/◌, List, Bool, false, Result, cond, length, leb, eqb}
 use Rattle.hbc_io.specs.Outcome.{limit}
 use Rattle.hbc_io.specs.Answer.{Answer, gives, refused_at, and_then}
+use Rattle.hbc_io.specs.Answers.{answered}
 use Rattle.hbc_io.specs.Lends.{below, choose, Lends}
+use Rattle.hbc_io.specs.declared.Refusal.{Refusal}
 use Rattle.hbc_rows.specs.Rows.{entry_at, rows, put_rows}
 use Rattle.hbc_table_strings.specs.declared.entries.Entry.{Entry}
 use Rattle.hbc_table_strings.specs.declared.row.StringRow.{StringRow}
-use Rattle.hbc_table_strings.specs.declared.Decoded.{Decoded}
 use Rattle.hbc_table_strings.specs.Kinds.{kind_of}
 use Rattle.hbc_table_strings.specs.Entries.{utf16, offset_of, units_of, entry, long_one, pairs_taken, pair_at, bytes_of}
 use Rattle.hbc_table_strings.specs.Row.{string_words, string_width, row_for}
-use Rattle.hbc_table_strings.specs.Strings.{says_decoded, lesser}
+use Rattle.hbc_table_strings.specs.Strings.{lesser}
 
 -- which pair a long entry takes, so many being taken before it: the next, in order; the offset field is not read then
 unfoldable pub pair_taken : ℕ → ℕ → ℕ
@@ -56,7 +57,7 @@ abbrev pub decoded_rows : List ℕ → List ℕ → List ℕ → ℕ → ℕ →
 decoded_rows kinds small overflow storage n table = put_rows string_width (words_of kinds small overflow storage) 0 n table
 
 -- the promise: the answer, and the rows
-abbrev pub DecodeStrings : ℕ → List ℕ → List ℕ → List ℕ → List ℕ → List ℕ → Decoded → List ℕ → Type 0
+abbrev pub DecodeStrings : ℕ → List ℕ → List ℕ → List ℕ → List ℕ → List ℕ → Result ℕ Refusal → List ℕ → Type 0
 DecodeStrings count kinds small overflow storage before =
-    Lends says_decoded (decode_answer count small overflow storage before)
+    Lends answered (decode_answer count small overflow storage before)
     (decoded_rows kinds small overflow (length storage) (lesser count (length small)) before) before

@@ -5,15 +5,16 @@ use mathlib.Core.List.{List}
 use native.Mathlib.Omega.{arith}
 use lib.ListN.{length, take, drop, length-append, length-drop}
 use lib.Seq.{take-append_seam, drop-append_seam}
+use Rattle.std.specs.Prelude.{Result, Ok, Err}
 use Rattle.hbc_io.specs.Outcome.{limit, refusal_at}
 use Rattle.hbc_io.specs.Answer.{Answer, gives, refuses}
 use Rattle.hbc_io.specs.Lends.{Lends}
 use Rattle.hbc_io.proofs.Exits.{is_below, reached, not_given}
-use Rattle.hbc_text_forms.specs.declared.Text.{Text}
-use Rattle.hbc_text_forms.specs.declared.Text.TheVariants.{Length, Refused}
-use Rattle.hbc_text_forms.specs.Text.{says_text, text_answer, over, put_answer, PutText}
-use Rattle.hbc_text_forms.proofs.Alone.{one_text}
-use Rattle.hbc_text_forms.proofs.Exits.{answered, room_for, room_short, of_bytes}
+use Rattle.hbc_text_forms.specs.Text.{text_answer, over, put_answer, PutText}
+use Rattle.hbc_io.proofs.Alone.{one_answer}
+use Rattle.hbc_io.specs.Answers.{answered}
+use Rattle.hbc_io.specs.declared.Refusal.{Refusal}
+use Rattle.hbc_text_forms.proofs.Exits.{length_given, room_for, room_short, of_bytes}
 use Rattle.hbc_claims_text.specs.Put.{Wrote, Puts}
 
 -- ---- what is lent, with the text over it
@@ -32,10 +33,10 @@ over_behind text before = drop-append_seam text (drop (length text) before)
 
 -- ---- what the promise leaves, of any answer that is a length only where the room's test gives it
 
-pub wrote : (text before : List ℕ) {o : Answer ℕ} {r : Text} {after : List ℕ} → ((n : ℕ) → o ≡ gives n → text_answer text (length before) ≡ gives n)
-    → Lends says_text o (over text before) before r after → Wrote text before r after
-wrote text before {o} {r = Length m} {after} last v =
-    let a = answered text (length before) m (last m (sym v.says)) in
+pub wrote : (text before : List ℕ) {o : Answer ℕ} {r : Result ℕ Refusal} {after : List ℕ} → ((n : ℕ) → o ≡ gives n → text_answer text (length before) ≡ gives n)
+    → Lends answered o (over text before) before r after → Wrote text before r after
+wrote text before {o} {r = Ok m} {after} last v =
+    let a = length_given text (length before) m (last m (sym v.says)) in
     let e : m ≡ length text = a.1 in
     let front : take m after ≡ text = rw (e, v.leaves) (over_front text before) in
     let behind : drop m after ≡ drop m before = rw (e, v.leaves) (over_behind text before) in
@@ -44,15 +45,15 @@ wrote text before {o} {r = Length m} {after} last v =
       fits = λ n q. a.0;
       front = λ n q. let z : m ≡ n = cc in rw (← z) front;
       behind = λ n q. let z : m ≡ n = cc in rw (← z) behind;
-      left = λ k q. absurd (not_given (sym (ap says_text q)));
+      left = λ k q. absurd (not_given (sym (ap answered q)));
       long = ap length v.leaves ∙ over_length text before a.0;
     }
-wrote text before {o} {r = Refused k} {after} last v =
+wrote text before {o} {r = Err k} {after} last v =
     record {
-      counts = λ n q. absurd (not_given (ap says_text q));
-      fits = λ n q. absurd (not_given (ap says_text q));
-      front = λ n q. absurd (not_given (ap says_text q));
-      behind = λ n q. absurd (not_given (ap says_text q));
+      counts = λ n q. absurd (not_given (ap answered q));
+      fits = λ n q. absurd (not_given (ap answered q));
+      front = λ n q. absurd (not_given (ap answered q));
+      behind = λ n q. absurd (not_given (ap answered q));
       left = λ x q. v.leaves;
       long = ap length v.leaves;
     }
@@ -68,12 +69,12 @@ module _ (text s before : List ℕ) where
   unfolding put_answer
   refused h = is_below _ _ _ _ h refl
 
-  pub puts : {r : Text} {after : List ℕ} → PutText text s before r after → Puts text s before r after
+  pub puts : {r : Result ℕ Refusal} {after : List ℕ} → PutText text s before r after → Puts text s before r after
   puts {r} v =
       record {
         wrote = wrote text before (λ n e. (last_test n e).1) v;
-        accepted = λ h k. one_text r (Length (length text)) (v.says ∙ sym (of_bytes text (length before) s h (room_for text (length before) k)));
-        only = λ n q. (last_test n (sym v.says ∙ ap says_text q)).0;
-        too_many = λ h. one_text r (Refused (refusal_at 1 0)) (v.says ∙ sym (refused h));
-        no_room = λ h k. one_text r (Refused (refusal_at 4 0)) (v.says ∙ sym (of_bytes text (length before) s h (room_short text (length before) k)));
+        accepted = λ h k. one_answer r (Ok (length text)) (v.says ∙ sym (of_bytes text (length before) s h (room_for text (length before) k)));
+        only = λ n q. (last_test n (sym v.says ∙ ap answered q)).0;
+        too_many = λ h. one_answer r (Err (refusal_at 1 0)) (v.says ∙ sym (refused h));
+        no_room = λ h k. one_answer r (Err (refusal_at 4 0)) (v.says ∙ sym (of_bytes text (length before) s h (room_short text (length before) k)));
       }

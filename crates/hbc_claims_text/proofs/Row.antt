@@ -9,6 +9,7 @@ use lib.ListN.{length, get_or, take, drop, length-drop}
 use lib.Dec.{ltb, eqb, lit<}
 use lib.Seq.{get_or-drop, length-take-le}
 use borrow.Author.Tests.{lt-ltb, le-ltb, eq-eqb, ne_eqb, eqb-true}
+use Rattle.std.specs.Prelude.{Result, Ok, Err}
 use Rattle.hbc_io.specs.Outcome.{limit, refusal_at}
 use Rattle.hbc_io.specs.Answer.{Answer, gives, refuses}
 use Rattle.hbc_io.specs.Plain.{span_of, span_in, part_of}
@@ -16,13 +17,13 @@ use Rattle.hbc_io.proofs.Exits.{is_below, not_below, reached, not_given}
 use Rattle.hbc_rows.specs.Rows.{rows}
 use Rattle.hbc_table_strings.specs.Row.{string_width}
 use Rattle.hbc_table_bytes.specs.StringBytes.{span_of_row, span_at, string_bytes}
-use Rattle.hbc_text_forms.specs.declared.Text.{Text}
-use Rattle.hbc_text_forms.specs.declared.Text.TheVariants.{Length, Refused}
 use Rattle.hbc_text_forms.specs.Utf8.{WellFormed, utf8_text}
 use Rattle.hbc_text_forms.specs.Scalars.{encode_all}
 use Rattle.hbc_text_forms.specs.Utf16.{units, scalars, utf16_text}
-use Rattle.hbc_text_forms.specs.Text.{says_text, text_answer}
-use Rattle.hbc_text_forms.proofs.Alone.{one_text}
+use Rattle.hbc_text_forms.specs.Text.{text_answer}
+use Rattle.hbc_io.proofs.Alone.{one_answer}
+use Rattle.hbc_io.specs.Answers.{answered}
+use Rattle.hbc_io.specs.declared.Refusal.{Refusal}
 use Rattle.hbc_text_forms.proofs.Laws.{text_nil}
 use Rattle.hbc_text_forms.proofs.Bounds.{text_length, wide_length}
 use Rattle.hbc_text_forms.proofs.Codes.{split}
@@ -174,13 +175,13 @@ module _ (s t : List ℕ) (k : ℕ) (before : List ℕ) where
   unfolding string_text_answer
   row_asked h l = not_below _ _ _ _ h (is_below _ _ _ _ (omega arith) refl)
 
-  pub puts_row : {r : Text} {after : List ℕ} → StringText s t k before r after → PutsRow s t k before r after
+  pub puts_row : {r : Result ℕ Refusal} {after : List ℕ} → StringText s t k before r after → PutsRow s t k before r after
   puts_row {r} v =
       record {
         wrote = wrote (string_text s t k) before (λ n e. (asked n e).2) v;
-        accepted = λ h l m. one_text r (Length (length (string_text s t k))) (v.says ∙ sym (room_asked h l (room_for (string_text s t k) (length before) m)));
-        only = λ n q. let a = asked n (sym v.says ∙ ap says_text q) in (a.0, a.1);
-        too_long = λ h. one_text r (Refused (refusal_at 1 0)) (v.says ∙ sym (long_asked h));
-        no_row = λ h l. one_text r (Refused (refusal_at 11 0)) (v.says ∙ sym (row_asked h l));
-        no_room = λ h l m. one_text r (Refused (refusal_at 4 0)) (v.says ∙ sym (room_asked h l (room_short (string_text s t k) (length before) m)));
+        accepted = λ h l m. one_answer r (Ok (length (string_text s t k))) (v.says ∙ sym (room_asked h l (room_for (string_text s t k) (length before) m)));
+        only = λ n q. let a = asked n (sym v.says ∙ ap answered q) in (a.0, a.1);
+        too_long = λ h. one_answer r (Err (refusal_at 1 0)) (v.says ∙ sym (long_asked h));
+        no_row = λ h l. one_answer r (Err (refusal_at 11 0)) (v.says ∙ sym (row_asked h l));
+        no_room = λ h l m. one_answer r (Err (refusal_at 4 0)) (v.says ∙ sym (room_asked h l (room_short (string_text s t k) (length before) m)));
       }

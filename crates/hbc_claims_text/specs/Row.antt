@@ -1,11 +1,10 @@
 -- docs/FORMAT.md, section 4.8: the text of a string's row, and the call that puts it.
-use Rattle.std.specs.Prelude.{ℕ, ◌+◌, ◌*◌, ◌%◌, ◌≤◌, ◌<◌, ◌≡◌, List, [], length, take, drop}
+use Rattle.std.specs.Prelude.{ℕ, ◌+◌, ◌*◌, ◌%◌, ◌≤◌, ◌<◌, ◌≡◌, List, [], length, take, drop, Result, Ok, Err}
 use Rattle.hbc_io.specs.Outcome.{limit, refusal_at}
+use Rattle.hbc_io.specs.declared.Refusal.{Refusal}
 use Rattle.hbc_rows.specs.Rows.{rows, row_at}
 use Rattle.hbc_table_strings.specs.declared.row.StringRow.{StringRow}
 use Rattle.hbc_table_strings.specs.Row.{string_width, string_row}
-use Rattle.hbc_text_forms.specs.declared.Text.{Text}
-use Rattle.hbc_text_forms.specs.declared.Text.TheVariants.{Length, Refused}
 use Rattle.hbc_text_forms.specs.Utf8.{WellFormed, utf8_text}
 use Rattle.hbc_text_forms.specs.Utf16.{utf16_text}
 use Rattle.hbc_text.specs.StringText.{string_text}
@@ -35,12 +34,12 @@ pub record OfRow (s t : List ℕ) (k : ℕ) : Type 0 where
   pub most : length (string_text s t k) ≤ 3 * length s
 
 -- a call that puts it into what is lent
-pub record PutsRow (s t : List ℕ) (k : ℕ) (before : List ℕ) (r : Text) (after : List ℕ) : Type 0 where
+pub record PutsRow (s t : List ℕ) (k : ℕ) (before : List ℕ) (r : Result ℕ Refusal) (after : List ℕ) : Type 0 where
   pub wrote : Wrote (string_text s t k) before r after
   -- accepted exactly when the storage is not too long, the row is there and the text has room
-  pub accepted : length s ≤ limit → k < rows string_width t → length (string_text s t k) ≤ length before → r ≡ Length (length (string_text s t k))
-  pub only : (n : ℕ) → r ≡ Length n → (length s ≤ limit) × (k < rows string_width t)
+  pub accepted : length s ≤ limit → k < rows string_width t → length (string_text s t k) ≤ length before → r ≡ Ok (length (string_text s t k))
+  pub only : (n : ℕ) → r ≡ Ok n → (length s ≤ limit) × (k < rows string_width t)
   -- 1 comes before 11, and 11 before 4
-  pub too_long : limit < length s → r ≡ Refused (refusal_at 1 0)
-  pub no_row : length s ≤ limit → rows string_width t ≤ k → r ≡ Refused (refusal_at 11 0)
-  pub no_room : length s ≤ limit → k < rows string_width t → length before < length (string_text s t k) → r ≡ Refused (refusal_at 4 0)
+  pub too_long : limit < length s → r ≡ Err (refusal_at 1 0)
+  pub no_row : length s ≤ limit → rows string_width t ≤ k → r ≡ Err (refusal_at 11 0)
+  pub no_room : length s ≤ limit → k < rows string_width t → length before < length (string_text s t k) → r ≡ Err (refusal_at 4 0)

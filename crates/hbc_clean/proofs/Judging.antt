@@ -1,5 +1,5 @@
 -- The strings in order, each judged by itself.
-use Prim.Native.Nat.{ℕ, suc, ◌+◌, ◌*◌, ◌/◌, ◌≤◌, ◌<◌}
+use Prim.Native.Nat.{ℕ, suc, ◌+◌, ◌*◌, ◌/◌, ◌≤◌, ◌<◌, min}
 use mathlib.Core.Path.{◌≡◌, refl, sym, ap, ◌∙◌}
 use mathlib.Core.Bool.{Bool, true, false, cond}
 use mathlib.Core.List.{List}
@@ -8,14 +8,14 @@ use native.Mathlib.Numerals.{add-one}
 use native.Mathlib.Decide.{le_ind}
 use lib.ListN.{length, replicate, length-replicate}
 use lib.Dec.{ltb, eqb}
-use borrow.Author.Tests.{lt-ltb, le-ltb}
+use borrow.Author.Tests.{lt-ltb, le-ltb, ltb-true, ltb-false}
 use Rattle.hbc_io.specs.Outcome.{limit}
 use Rattle.hbc_io.specs.declared.Refusal.{Refusal}
-use Rattle.hbc_io.specs.Answer.{Answer, gives, refuses, refused_at, and_then}
+use Rattle.hbc_io.specs.Answer.{gives, refuses, refused_at, and_then}
 use Rattle.hbc_io.specs.Lends.{below, choose}
 use Rattle.hbc_rows.specs.Rows.{entry_at, rows}
 use Rattle.hbc_table_strings.specs.declared.Mode.TheVariants.{Hermes}
-use Rattle.hbc_table_strings.specs.Entries.{offset_of, pair_of, lacks_pair}
+use Rattle.hbc_table_strings.specs.Entries.{offset_of, lacks_pair}
 use Rattle.hbc_table_strings.specs.Hermes.{kind_in}
 use Rattle.hbc_table_strings.specs.Row.{string_width, row_with, row_of}
 use Rattle.hbc_table_strings.specs.Strings.{scan, lesser, decode_answer, judged}
@@ -90,6 +90,15 @@ module _ (small overflow : List ℕ) where
     }
 
 -- ---- the answers
+
+lesser_by : (count lent : ℕ) (x : Bool) → ltb count lent ≡ x → min count lent ≡ cond x count lent
+lesser_by count lent true e = let l = ltb-true count lent e in omega (arith, l)
+lesser_by count lent false e = let l = ltb-false count lent e in omega (arith, l)
+
+-- strings decoded
+pub lesser_is : {n : ℕ} (count lent : ℕ) → n ≡ min count lent → n ≡ lesser count lent
+unfolding lesser
+lesser_is count lent e = e ∙ lesser_by count lent (ltb count lent) refl
 
 -- room for so many rows
 rows_room : (n : ℕ) → n ≤ rows string_width (replicate (n * string_width) 0)

@@ -1,18 +1,21 @@
 -- Kind runs: their sum, and the lowest place that breaks rule 2.
 use Prim.Native.Nat.{ℕ, suc, ◌+◌, ◌≤◌, ◌<◌}
 use mathlib.Core.Path.{◌≡◌, refl, sym, ap, ◌∙◌, subst}
-use mathlib.Core.Bool.{Bool, true, false, not}
+use mathlib.Core.Bool.{true, false, not}
 use mathlib.Core.List.{List}
 use native.Mathlib.Omega.{arith}
 use native.Mathlib.Numerals.{add-one}
 use native.Mathlib.Decide.{le_ind, dec_lt}
 use lib.ListN.{length}
-use lib.Dec.{ltb, eqb}
-use borrow.Author.Tests.{lt-ltb, le-ltb, ne_eqb}
+use lib.Dec.{eqb}
+use borrow.Author.Tests.{lt-ltb, le-ltb, eq-eqb, ne_eqb}
 use Rattle.hbc_table_strings.specs.Hermes.{run_length, lengths}
 use Rattle.hbc_lowest.specs.Lowest.{lowest_of}
-use Rattle.hbc_lowest.proofs.Laws.{Is, None, is_lowest, lowest_is, lowest_none, truth_clash}
-use Rattle.hbc_clean.specs.Private.{RunIs}
+use Rattle.hbc_lowest.proofs.Laws.{Is, none_first, none_next, lowest_here, is_lowest, lowest_is, lowest_none}
+use Rattle.hbc_lowest.proofs.Laws as laws
+use Rattle.std.specs.Prelude.{Some, None}
+use Rattle.hbc_io.specs.Lends.{below}
+use Rattle.hbc_clean.specs.Private.{run_found}
 use Rattle.hbc_clean.specs.Strings.{empty_run, wrong_sum, breaks_runs, run_places}
 
 -- ---- their sum
@@ -33,10 +36,6 @@ sum_grows kinds a b h = le_ind (λ (m : ℕ). lengths kinds a ≤ lengths kinds 
 
 pub sum_next : (kinds : List ℕ) (run : ℕ) {sum n : ℕ} → sum ≡ lengths kinds run → n ≡ run_length kinds run → sum + n ≡ lengths kinds (run + 1)
 sum_next kinds run e d = let q = sum_more kinds run in omega (arith, q, e, d)
-
-pub sum_all : (kinds : List ℕ) (strings : ℕ) {run sum : ℕ} → sum ≡ lengths kinds run → run ≤ length kinds → length kinds ≤ run
-    → eqb sum strings ≡ eqb (lengths kinds (length kinds)) strings
-sum_all kinds strings {run} e l h = let z : run ≡ length kinds = omega (arith, l, h) in ap (λ (k : ℕ). eqb k strings) (e ∙ ap (lengths kinds) z)
 
 -- once above the count it stays above
 pub sum_above : (kinds : List ℕ) (strings run : ℕ) → run < length kinds → strings < lengths kinds (run + 1) → false ≡ eqb (lengths kinds (length kinds)) strings
@@ -76,22 +75,40 @@ module _ (kinds : List ℕ) (strings : ℕ) where
     none_is h d = lowest_none (breaks_runs kinds strings) (record { not = λ i l. none_by h d i l (dec_lt i r) })
 
     -- broken at r
-    here : r < run_places kinds → r ≡ lowest_of (breaks_runs kinds strings) (run_places kinds) → RunIs kinds strings true r
-    here h d = record { so = sym (lt-ltb (lowest_of (breaks_runs kinds strings) (run_places kinds)) (run_places kinds) (omega (arith, h, d))); is = λ _. d }
+    here : r < run_places kinds → r ≡ lowest_of (breaks_runs kinds strings) (run_places kinds) → Some r ≡ run_found kinds strings
+    unfolding run_found below
+    here h d = rw (lt-ltb (lowest_of (breaks_runs kinds strings) (run_places kinds)) (run_places kinds) (omega (arith, h, d))) (ap Some d)
 
-    pub run_empty : r < length kinds → RunIs kinds strings true r
+    pub run_empty : r < length kinds → Some r ≡ run_found kinds strings
     run_empty h = here (omega (arith, h)) (empty_is h)
 
-    pub run_sum : length kinds ≤ r → eqb (lengths kinds (length kinds)) strings ≡ false → RunIs kinds strings true r
+    pub run_sum : length kinds ≤ r → eqb (lengths kinds (length kinds)) strings ≡ false → Some r ≡ run_found kinds strings
     run_sum h d = here (omega (arith, found.most)) (sum_is h d)
 
-    pub run_none : length kinds ≤ r → eqb (lengths kinds (length kinds)) strings ≡ true → RunIs kinds strings false 0
+    pub run_none : length kinds ≤ r → eqb (lengths kinds (length kinds)) strings ≡ true → None ≡ run_found kinds strings
+    unfolding run_found below
     run_none h d =
         let z = none_is h d in
-        record {
-          so = sym (le-ltb (lowest_of (breaks_runs kinds strings) (run_places kinds)) (run_places kinds) (omega (arith, z)));
-          is = λ e. absurd (truth_clash e refl);
-        }
+        rw (le-ltb (lowest_of (breaks_runs kinds strings) (run_places kinds)) (run_places kinds) (omega (arith, z)))
 
-pub run_end : (kinds : List ℕ) {r : ℕ} → r ≤ length kinds → length kinds ≤ r → None (empty_run kinds) r → r ≡ lowest_of (empty_run kinds) (length kinds)
-run_end kinds {r} l h p = let z : r ≡ length kinds = omega (arith, l, h) in z ∙ lowest_none (empty_run kinds) (subst (None (empty_run kinds)) z p)
+-- ---- the first that is empty
+
+module _ (kinds : List ℕ) where
+  pub empty_first : laws.None (empty_run kinds) 0
+  empty_first = none_first
+
+  pub empty_next : {i n : ℕ} → laws.None (empty_run kinds) i → n ≡ run_length kinds i → (n ≡ 0 → ⊥) → laws.None (empty_run kinds) (i + 1)
+  empty_next {i} p e h = none_next (empty_run kinds) p (ne_eqb (run_length kinds i) 0 (λ z. h (e ∙ z)))
+
+  pub empty_here : {i n : ℕ} → laws.None (empty_run kinds) i → i < length kinds → n ≡ run_length kinds i → n ≡ 0 → i ≡ lowest_of (empty_run kinds) (length kinds)
+  empty_here {i} p l e z = lowest_here (empty_run kinds) p l (eq-eqb (run_length kinds i) 0 (sym e ∙ z))
+
+  pub empty_none : laws.None (empty_run kinds) (length kinds) → length kinds ≡ lowest_of (empty_run kinds) (length kinds)
+  empty_none p = lowest_none (empty_run kinds) p
+
+-- what the calls cite
+pub ruleset emptiness = (empty_first, empty_next, empty_here, empty_none)
+
+pub ruleset summing = (sum_first, sum_next, sum_above)
+
+pub ruleset lowest_runs = (run_empty, run_sum, run_none)

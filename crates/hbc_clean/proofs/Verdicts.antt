@@ -10,18 +10,20 @@ use Rattle.hbc_io.specs.declared.Refusal.{Refusal}
 use Rattle.hbc_io.specs.Answer.{Answer, gives, refuses, refused_at, and_then}
 use Rattle.hbc_io.specs.Lends.{below, choose}
 use Rattle.hbc_io.proofs.Exits.{not_given}
-use Rattle.hbc_rows.specs.Rows.{entry_at, rows}
+use Rattle.hbc_rows.specs.Rows.{entry_at}
 use Rattle.hbc_function_record.specs.Row.{width}
 use Rattle.hbc_function.specs.Table.{read_answer}
 use Rattle.hbc_table_strings.specs.declared.Mode.TheVariants.{Hermes}
 use Rattle.hbc_table_strings.specs.Entries.{pair_of, lacks_pair}
-use Rattle.hbc_table_strings.specs.Strings.{scan, lesser}
+use Rattle.hbc_table_strings.specs.Strings.{scan}
 use Rattle.hbc_lowest.specs.Lowest.{lowest_of}
 use Rattle.hbc_clean_large.specs.Large.{check_large}
-use Rattle.hbc_clean_series.specs.Series.{series_width, read_all, check_series}
-use Rattle.hbc_clean.specs.Strings.{breaks_runs, run_places, read_strings}
+use Rattle.hbc_clean_series.specs.Series.{read_all, lows, check_series}
+use Rattle.hbc_clean.specs.Strings.{run_places, read_strings}
 use Rattle.hbc_clean.specs.Bundle.{Given, Verdict, clean, broken, strings_of, series_of, large, runs, valid, full, known, rule, verdict, check_bundle}
-use Rattle.hbc_clean.specs.Private.{RunIs, check_strings, first_broken}
+use Rattle.hbc_clean.specs.Private.{run_found, runs_broken, check_strings, first_broken}
+use Rattle.hbc_clean_series.specs.declared.Lows.{Lows}
+use Rattle.std.specs.Prelude.{Option, Some, None}
 use Rattle.hbc_clean.proofs.Judging.{read_is}
 
 -- ---- an answer and what is given after it
@@ -94,32 +96,33 @@ module _ (g : Given) where
 
       pub series_refuse : {x : Refusal} → refuses x ≡ check_series g.strings g.keys g.values g.series → refuses x ≡ check_bundle g
       unfolding check_bundle check_series
-      series_refuse e = rw (headers_gave.is, texts_gave.is, then_refused {B = ℕ × ℕ} literals (λ _. (lowest_of (full g) (series_of g), lowest_of (known g) (series_of g))) e)
+      series_refuse e = rw (headers_gave.is, texts_gave.is, then_refused literals (λ _. lows (lowest_of (full g) (series_of g)) (lowest_of (known g) (series_of g))) e)
 
       -- ---- the first broken rule
 
-      module _ {a b : ℕ} (third : gives (a, b) ≡ check_series g.strings g.keys g.values g.series) where
-        literals_gave : Gave {B = ℕ × ℕ} literals (λ _. (lowest_of (full g) (series_of g), lowest_of (known g) (series_of g))) (a, b)
+      module _ {v : Lows} (third : gives v ≡ check_series g.strings g.keys g.values g.series) where
+        literals_gave : Gave literals (λ _. lows (lowest_of (full g) (series_of g)) (lowest_of (known g) (series_of g))) v
         unfolding check_series
-        literals_gave = then_gave {B = ℕ × ℕ} literals (λ _. (lowest_of (full g) (series_of g), lowest_of (known g) (series_of g))) third
+        literals_gave = then_gave literals (λ _. lows (lowest_of (full g) (series_of g)) (lowest_of (known g) (series_of g))) third
 
-        run_by : (x : Bool) {run : ℕ} (v : Verdict) → RunIs g.kinds g.strings x run
-            → choose x (broken 2 run) v ≡ rule 2 (runs g) (run_places g.kinds) v
-        unfolding choose below
-        run_by true v p = rw (← p.so, p.is refl)
-        run_by false v p = rw (← p.so)
+        by_test : (x : Bool) (p : ℕ) (w : Verdict) → runs_broken (cond x (Some p) None) w ≡ cond x (broken 2 p) w
+        by_test true p w = refl
+        by_test false p w = refl
 
-        first_is : (x : Bool) {run : ℕ} → RunIs g.kinds g.strings x run
-            → first_broken n g.count x run m (strings_of g) a b (series_of g) ≡ verdict g
+        run_by : {run : Option ℕ} (w : Verdict) → run ≡ run_found g.kinds g.strings → runs_broken run w ≡ rule 2 (runs g) (run_places g.kinds) w
+        unfolding run_found below
+        run_by w p = rw p (by_test (ltb (lowest_of (runs g) (run_places g.kinds)) (run_places g.kinds)) (lowest_of (runs g) (run_places g.kinds)) w)
+
+        first_is : {run : Option ℕ} → run ≡ run_found g.kinds g.strings → first_broken n g.count run m (strings_of g) v.empty v.high (series_of g) ≡ verdict g
         unfolding verdict
-        first_is x {run} p =
+        first_is {run} p =
             let e : m ≡ lowest_of (valid g) (strings_of g) = texts_gave.so ∙ ap (lowest_of (valid g)) (sym (all_read texts_gave.is)) in
-            let d : a ≡ lowest_of (full g) (series_of g) = ap (λ (q : ℕ × ℕ). q.0) literals_gave.so in
-            let h : b ≡ lowest_of (known g) (series_of g) = ap (λ (q : ℕ × ℕ). q.1) literals_gave.so in
+            let d : v.empty ≡ lowest_of (full g) (series_of g) = ap (λ (q : Lows). q.empty) literals_gave.so in
+            let h : v.high ≡ lowest_of (known g) (series_of g) = ap (λ (q : Lows). q.high) literals_gave.so in
             let rest = rule 3 (valid g) (strings_of g) (rule 4 (full g) (series_of g) (rule 5 (known g) (series_of g) clean)) in
-            rw (headers_gave.so, e, d, h, run_by x rest p)
+            rw (headers_gave.so, e, d, h, run_by rest p)
 
-        pub bundle_given : (x : Bool) {run : ℕ} {v : Answer Verdict} → RunIs g.kinds g.strings x run
-            → v ≡ gives (first_broken n g.count x run m (strings_of g) a b (series_of g)) → v ≡ check_bundle g
+        pub bundle_given : {run : Option ℕ} {w : Verdict} → run ≡ run_found g.kinds g.strings
+            → w ≡ first_broken n g.count run m (strings_of g) v.empty v.high (series_of g) → gives w ≡ check_bundle g
         unfolding check_bundle
-        bundle_given x p e = e ∙ ap gives (first_is x p) ∙ rw (headers_gave.is, texts_gave.is, literals_gave.is)
+        bundle_given p e = ap gives (e ∙ first_is p) ∙ rw (headers_gave.is, texts_gave.is, literals_gave.is)

@@ -1,5 +1,5 @@
 -- docs/FORMAT.md, section 12: the clean-bundle profile: the readers' refusals, then the first broken rule with its lowest place.
-use Rattle.std.specs.Prelude.{ℕ, ◌+◌, ◌*◌, List, Bool, ◌≡◌, length}
+use Rattle.std.specs.Prelude.{ℕ, ◌*◌, List, Option, Some, None, Result, Ok, Err, Bool, length}
 use Rattle.hbc_io.specs.Answer.{Answer, gives, refuses, and_then}
 use Rattle.hbc_io.specs.Lends.{below}
 use Rattle.hbc_rows.specs.Rows.{rows}
@@ -11,8 +11,10 @@ use Rattle.hbc_lowest.specs.Lowest.{lowest_of}
 use Rattle.hbc_clean_large.specs.Large.{breaks_large}
 use Rattle.hbc_clean_series.specs.Series.{series_width, breaks_empty, breaks_string, read_all}
 use Rattle.hbc_clean.specs.Strings.{breaks_runs, run_places, breaks_valid, read_strings}
-use Rattle.hbc_clean.specs.declared.Bundle.{Bundle}
-use Rattle.hbc_clean.specs.declared.Bundle.TheVariants as bundle
+use Rattle.hbc_io.specs.declared.Refusal.{Refusal}
+use Rattle.hbc_clean.specs.declared.Rule.{Rule}
+use Rattle.hbc_clean.specs.declared.Rule.TheVariants as rule_of
+use Rattle.hbc_clean.specs.declared.Broken.{Broken}
 
 -- what is given: headers, strings and literal series
 pub record Given : Type 0 where
@@ -103,7 +105,21 @@ check_bundle g =
 
 -- ---- the call
 
+-- the numbers of the rules
+abbrev pub number_of : Rule → ℕ
+number_of rule_of.LargeHeaders = 1
+number_of rule_of.KindRuns = 2
+number_of rule_of.Strings = 3
+number_of rule_of.EmptyTags = 4
+number_of rule_of.LiteralStrings = 5
+
+abbrev pub found_by : Option Broken → Verdict
+found_by None = clean
+found_by (Some b) = broken (number_of b.rule) b.place
+
+abbrev pub Bundle : Type 0
+Bundle = Result (Option Broken) Refusal
+
 abbrev pub says_bundle : Bundle → Answer Verdict
-says_bundle bundle.Clean = gives clean
-says_bundle (bundle.Broken k place) = gives (broken k place)
-says_bundle (bundle.Refused r) = refuses r
+says_bundle (Ok v) = gives (found_by v)
+says_bundle (Err r) = refuses r

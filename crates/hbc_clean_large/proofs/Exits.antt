@@ -1,12 +1,12 @@
 -- The answers of the call, refusal by refusal.
 use Prim.Native.Nat.{ℕ, ◌*◌, ◌≤◌, ◌<◌}
-use mathlib.Core.Path.{◌≡◌, refl, sym, ap, ◌∙◌}
+use mathlib.Core.Path.{◌≡◌}
 use mathlib.Core.List.{List}
 use native.Mathlib.Omega.{arith}
 use lib.ListN.{length}
 use borrow.Author.Tests.{lt-ltb, le-ltb}
 use Rattle.hbc_io.specs.declared.Refusal.{Refusal}
-use Rattle.hbc_io.specs.Answer.{Answer, gives, refuses, refused_at, asked}
+use Rattle.hbc_io.specs.Answer.{gives, refuses, refused_at, asked}
 use Rattle.hbc_io.specs.Outcome.{limit}
 use Rattle.hbc_io.specs.Lends.{below}
 use Rattle.hbc_function_record.specs.declared.Layout.{Layout}
@@ -39,3 +39,6 @@ module _ (s : List ℕ) (layout : Layout) (start count : ℕ) where
       → r ≡ lowest_of (breaks_large s layout start count) count → gives r ≡ check_large s layout start count
   unfolding check_large
   check_given h k e d = rw (read_is h k, ← e, d)
+
+-- what the call cites
+pub ruleset exits = (check_long, check_past, check_refused, check_given)

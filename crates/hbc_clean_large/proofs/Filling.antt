@@ -1,9 +1,11 @@
 -- One function more of a window, and all windows.
-use Prim.Native.Nat.{ℕ, zero, suc, ◌+◌, ◌-◌, ◌*◌, ◌/◌, ◌≤◌, ◌<◌}
+use Prim.Native.Nat.{ℕ, zero, suc, ◌+◌, ◌-◌, ◌*◌, ◌≤◌, ◌<◌}
 use mathlib.Core.Path.{◌≡◌, refl, sym, ap, ◌∙◌, subst}
 use mathlib.Core.Logic.{◌⊎◌, inl, inr}
-use mathlib.Core.Bool.{Bool, true, false}
+use mathlib.Core.Bool.{true}
 use mathlib.Core.List.{List}
+use Rattle.std.specs.Prelude.{Option, Some, None}
+use Rattle.hbc_lowest.proofs.Laws.{truth_clash}
 use native.Mathlib.Omega.{arith}
 use native.Mathlib.Decide.{dec_lt}
 use lib.ListN.{length, get_or, set, length-set, replicate, length-replicate}
@@ -12,8 +14,7 @@ use Rattle.hbc_rows.specs.Rows.{entry_at}
 use Rattle.hbc_io.specs.Outcome.{limit}
 use Rattle.hbc_function_record.specs.declared.Layout.{Layout}
 use Rattle.hbc_function_record.specs.Record.{large_of}
-use Rattle.hbc_clean_large.specs.declared.Spot.{Spot}
-use Rattle.hbc_clean_large.specs.Private.{spot_at, Here, Readable, Touch, Share, slot, slots, Starts, Nearer, Filled, Within, Later, Real, Least, Looked, Swept}
+use Rattle.hbc_clean_large.specs.Private.{is_large, place_in, spot_at, Here, Readable, Touch, Share, slot, slots, Starts, Nearer, Filled, Within, Later, Real, Least, Looked}
 use Rattle.hbc_clean_large.proofs.Slots.{touch_back, near, together, slot_below, slot_above}
 
 pub by_less : {R : Type 0} (i j : ℕ) → (i < j → R) → (j ≤ i → R) → R
@@ -30,7 +31,7 @@ by_same i j f g = by_less i j (λ l. g (λ e. omega (arith, l, e))) (λ l. by_le
 pub by_word : {R : Type 0} (w : ℕ) → (w ≡ 0 → R) → ((v : ℕ) → w ≡ v + 1 → R) → R
 by_word w f g = by_less 0 w (λ l. g (w - 1) (omega (arith, l))) (λ l. f (omega (arith, l)))
 
-module _ (layout : Layout) (f : ℕ → Spot) (first i : ℕ) (t : List ℕ) where
+module _ (layout : Layout) (f : ℕ → Option ℕ) (first i : ℕ) (t : List ℕ) where
   abbrev n : ℕ
   n = large_of layout
 
@@ -56,16 +57,16 @@ module _ (layout : Layout) (f : ℕ → Spot) (first i : ℕ) (t : List ℕ) whe
       };
       all = λ a b l h s x y.
           by_same b i
-          (λ e. absurd (out (slot n (f b).place - first) (omega (arith, y.to, y.from))
-          (subst (Starts n f (first + (slot n (f b).place - first))) e (record { large = s.other; slot = omega (arith, y.from) }))))
+          (λ e. absurd (out (slot n (place_in (f b)) - first) (omega (arith, y.to, y.from))
+          (subst (Starts n f (first + (slot n (place_in (f b)) - first))) e (record { large = s.other; slot = omega (arith, y.from) }))))
           (λ e. p.all a b l (omega (arith, h, e)) s x y);
     }
 
   -- ---- one that does
 
-  module _ {k place : ℕ} (long : k < slots) (is_large : (f i).large ≡ true) (is-place : (f i).place ≡ place) (here : slot n place ≡ first + k) where
+  module _ {k place : ℕ} (long : k < slots) (has_large : is_large (f i) ≡ true) (is-place : place_in (f i) ≡ place) (here : slot n place ≡ first + k) where
     starts : Starts n f (first + k) i
-    starts = record { large = is_large; slot = ap (slot n) is-place ∙ here }
+    starts = record { large = has_large; slot = ap (slot n) is-place ∙ here }
 
     only : (m j : ℕ) → j ≡ i → Starts n f (first + m) j → m ≡ k
     only m j e s = let q = (subst (Starts n f (first + m)) e s).slot in omega (arith, q, starts.slot)
@@ -111,12 +112,12 @@ module _ (layout : Layout) (f : ℕ → Spot) (first i : ℕ) (t : List ℕ) whe
       pub least_down : right ≤ low
       least_down = omega (arith, at_own.less, at_left.less, at_right.less)
 
-      shared : (m v : ℕ) → entry_at t m ≡ v + 1 → Touch n (f v).place place → (v < i) × Share n f v i
+      shared : (m v : ℕ) → entry_at t m ≡ v + 1 → Touch n (place_in (f v)) place → (v < i) × Share n f v i
       shared m v e x =
           let y = p.kept m v e in
-          (y.0, record { one = y.1.large; other = is_large; touch = subst (Touch n (f v).place) (sym is-place) x })
+          (y.0, record { one = y.1.large; other = has_large; touch = subst (Touch n (place_in (f v))) (sym is-place) x })
 
-      by_kept : (m v : ℕ) → entry_at t m ≡ v + 1 → Touch n (f v).place place → Later n f (i + 1) v
+      by_kept : (m v : ℕ) → entry_at t m ≡ v + 1 → Touch n (place_in (f v)) place → Later n f (i + 1) v
       by_kept m v e x = let y = shared m v e x in record { index = i; after = y.0; below = omega arith; share = y.1 }
 
       found_other : (best : ℕ) → Real n f i best low → right < best → Later n f (i + 1) right
@@ -130,7 +131,7 @@ module _ (layout : Layout) (f : ℕ → Spot) (first i : ℕ) (t : List ℕ) whe
           subst (Later n f (i + 1)) (sym z) (later_on (q.other (omega (arith, h, z)))))))
 
       -- the first function of a slot that was looked at, which shares a byte with this one
-      reached : (m v : ℕ) → entry_at t m ≡ v + 1 → (m ≡ k) ⊎ ((m ≡ before) ⊎ (m ≡ k + 1)) → Touch n (f v).place place → right ≤ v
+      reached : (m v : ℕ) → entry_at t m ≡ v + 1 → (m ≡ k) ⊎ ((m ≡ before) ⊎ (m ≡ k + 1)) → Touch n (place_in (f v)) place → right ≤ v
       reached m v e (inl q) x = let y = at_own.found v (sym (ap (entry_at t) q) ∙ e) x in omega (arith, y, at_left.less, at_right.less)
       reached m v e (inr (inl q)) x = let y = at_left.found v (sym (ap (entry_at t) q) ∙ e) x in omega (arith, y, at_right.less)
       reached m v e (inr (inr q)) x = at_right.found v (sym (ap (entry_at t) q) ∙ e) x
@@ -139,11 +140,11 @@ module _ (layout : Layout) (f : ℕ → Spot) (first i : ℕ) (t : List ℕ) whe
       beside m l h =
           by_same m k inl (λ d. by_same m (k + 1) (λ e. inr (inr e)) (λ e. inr (inl (let z = before-is.0 (omega (arith, h, l, d, e)) in omega (arith, z, h, l, d, e)))))
 
-      look_all : (best : ℕ) → Least n f first i best low → (a : ℕ) → a < i → Share n f a i → Within n first (f a).place → right ≤ a
+      look_all : (best : ℕ) → Least n f first i best low → (a : ℕ) → a < i → Share n f a i → Within n first (place_in (f a)) → right ≤ a
       look_all best q a l s y =
-          let x : Touch n (f a).place place = subst (Touch n (f a).place) is-place s.touch in
-          let m = slot n (f a).place - first in
-          let in_slot : slot n (f a).place ≡ first + m = omega (arith, y.from) in
+          let x : Touch n (place_in (f a)) place = subst (Touch n (place_in (f a))) is-place s.touch in
+          let m = slot n (place_in (f a)) - first in
+          let in_slot : slot n (place_in (f a)) ≡ first + m = omega (arith, y.from) in
           let a_starts : Starts n f (first + m) a = record { large = s.one; slot = in_slot } in
           let m_long : m < slots = omega (arith, y.to, y.from) in
           let right_of = near layout x in
@@ -151,11 +152,11 @@ module _ (layout : Layout) (f : ℕ → Spot) (first i : ℕ) (t : List ℕ) whe
           let where_m = beside m (omega (arith, right_of, here, in_slot)) (omega (arith, left_of, here, in_slot)) in
           by_word (entry_at t m) (λ z. absurd (p.free m m_long z a l a_starts)) (λ v e.
           let kept = p.kept m v e in
-          by_same v a (λ same. let z = reached m v e where_m (subst (λ (j : ℕ). Touch n (f j).place place) (sym same) x) in omega (arith, z, same)) (λ other.
+          by_same v a (λ same. let z = reached m v e where_m (subst (λ (j : ℕ). Touch n (place_in (f j)) place) (sym same) x) in omega (arith, z, same)) (λ other.
           by_less a v (λ lower. absurd (p.lowest m v e a lower a_starts)) (λ higher.
-          let both : Touch n (f v).place (f a).place = together layout (kept.1.slot ∙ sym in_slot) in
+          let both : Touch n (place_in (f v)) (place_in (f a)) = together layout (kept.1.slot ∙ sym in_slot) in
           let pair : Share n f v a = record { one = kept.1.large; other = s.one; touch = both } in
-          let v_in : Within n first (f v).place = record { from = omega (arith, kept.1.slot); to = omega (arith, kept.1.slot, m_long) } in
+          let v_in : Within n first (place_in (f v)) = record { from = omega (arith, kept.1.slot); to = omega (arith, kept.1.slot, m_long) } in
           let z = q.all v a (omega (arith, higher, other)) l pair v_in y in
           omega (arith, z, higher, least_down))))
 
@@ -169,45 +170,19 @@ module _ (layout : Layout) (f : ℕ → Spot) (first i : ℕ) (t : List ℕ) whe
 
 -- ---- the function that a slot keeps
 
-same_kept : (f : ℕ → Spot) {kept : ℕ} (v w : ℕ) → kept ≡ v + 1 → kept ≡ w + 1 → (f v).place ≡ (f w).place
-same_kept f v w e d = let z : v ≡ w = omega (arith, e, d) in ap (λ (j : ℕ). (f j).place) z
-
-module _ {n : ℕ} {f : ℕ → Spot} {kept place best : ℕ} (v : ℕ) {p : ℕ} (e : kept ≡ v + 1) (d : p ≡ (f v).place) where
-  -- one that ends before the place, or starts after what stands there
-  pub nearer_before : p + n ≤ place → Nearer n f kept place best best
-  nearer_before h = record {
-    less = omega arith;
-    real = λ l. absurd (omega (arith, l));
-    found = λ w g t. let z = same_kept f v w e g in absurd (omega (arith, z, d, h, t.right));
-  }
-
-  pub nearer_after : place + n ≤ p → Nearer n f kept place best best
-  nearer_after h = record {
-    less = omega arith;
-    real = λ l. absurd (omega (arith, l));
-    found = λ w g t. let z = same_kept f v w e g in absurd (omega (arith, z, d, h, t.left));
-  }
-
-  pub nearer_here : v < best → place < p + n → p < place + n → Nearer n f kept place best v
-  nearer_here l h k = record {
-    less = omega (arith, l);
-    real = λ m. (e, record { left = omega (arith, d, k); right = omega (arith, d, h) });
-    found = λ w g t. omega (arith, e, g);
-  }
-
 -- what a slot keeps can be read
 pub kept_here : {s : List ℕ} {layout : Layout} {start first i : ℕ} {t : List ℕ} {w : ℕ} (k : ℕ) → Readable s layout start (i + 1)
     → Filled (large_of layout) (spot_at s layout start) first i t → w ≡ entry_at t k → (v : ℕ) → w ≡ v + 1
-    → Here s layout start v × ((spot_at s layout start v).large ≡ true)
+    → Here s layout start v × (is_large (spot_at s layout start v) ≡ true)
 kept_here k p q d v e = let y = q.kept k v (sym d ∙ e) in (p.each v (omega (arith, y.0)), y.1.large)
-
-pub kept_is : (w : ℕ) → (w ≡ 0 → ⊥) → w ≡ (w - 1) + 1
-kept_is w h = omega (arith, h)
 
 -- ---- what a look leaves
 
-module _ (layout : Layout) (f : ℕ → Spot) (first i low : ℕ) (t : List ℕ) {place : ℕ} (is-place : (f i).place ≡ place)
+module _ (layout : Layout) (f : ℕ → Option ℕ) (first i low : ℕ) (t : List ℕ) {place : ℕ} (spot : f i ≡ Some place)
     (p : Filled (large_of layout) f first i t) where
+  is-place : place_in (f i) ≡ place
+  is-place = ap place_in spot
+
   looked_out : ((k : ℕ) → k < slots → Starts (large_of layout) f (first + k) i → ⊥) → Looked (large_of layout) f first i low low t
   looked_out out = record { fills = filled_skip layout f first i t out p; least = λ best. least_skip layout f first i t out best low }
 
@@ -217,7 +192,7 @@ module _ (layout : Layout) (f : ℕ → Spot) (first i low : ℕ) (t : List ℕ)
   pub looked_after : first ≤ slot (large_of layout) place → slots ≤ slot (large_of layout) place - first → Looked (large_of layout) f first i low low t
   looked_after g h = looked_out (λ k l s. let e = sym (ap (slot (large_of layout)) is-place) ∙ s.slot in omega (arith, e, g, h, l))
 
-  module _ {k own left right before : ℕ} (is_large : (f i).large ≡ true) (from : first ≤ slot (large_of layout) place) (k-is : k ≡ slot (large_of layout) place - first)
+  module _ {k own left right before : ℕ} (from : first ≤ slot (large_of layout) place) (k-is : k ≡ slot (large_of layout) place - first)
       (long : k < slots) (before-is : (0 < k → before ≡ k - 1) × (k ≡ 0 → before ≡ slots)) (at_own : Nearer (large_of layout) f (entry_at t k) place low own)
       (at_left : Nearer (large_of layout) f (entry_at t before) place own left) (at_right : Nearer (large_of layout) f (entry_at t (k + 1)) place left right) where
     here : slot (large_of layout) place ≡ first + k
@@ -225,20 +200,23 @@ module _ (layout : Layout) (f : ℕ → Spot) (first i low : ℕ) (t : List ℕ)
 
     pub looked_new : entry_at t k ≡ 0 → Looked (large_of layout) f first i low right (set t k (i + 1))
     looked_new z = record {
-      fills = filled_new layout f first i t long is_large is-place here z p;
-      least = least_look layout f first i t long is_large is-place here p before-is at_own at_left at_right;
+      fills = filled_new layout f first i t long (ap is_large spot) is-place here z p;
+      least = least_look layout f first i t long (ap is_large spot) is-place here p before-is at_own at_left at_right;
     }
 
     pub looked_kept : (entry_at t k ≡ 0 → ⊥) → Looked (large_of layout) f first i low right t
     looked_kept z = record {
-      fills = filled_kept layout f first i t long is_large is-place here z p;
-      least = least_look layout f first i t long is_large is-place here p before-is at_own at_left at_right;
+      fills = filled_kept layout f first i t long (ap is_large spot) is-place here z p;
+      least = least_look layout f first i t long (ap is_large spot) is-place here p before-is at_own at_left at_right;
     }
 
 -- the place of a large header that is in the file
-pub place_low : {s : List ℕ} {layout : Layout} {start : ℕ} (i : ℕ) {place : ℕ} → Readable s layout start (i + 1) → (spot_at s layout start i).large ≡ true
-    → (spot_at s layout start i).place ≡ place → length s ≤ limit → place ≤ limit
-place_low i p e d h = let q = (p.each i (omega arith)).large e in omega (arith, q, d, h)
+pub place_low : {s : List ℕ} {layout : Layout} {start : ℕ} (i : ℕ) {place : ℕ} → Readable s layout start (i + 1) → spot_at s layout start i ≡ Some place
+    → length s ≤ limit → place ≤ limit
+place_low {s} {layout} {start} i {place} p e h =
+    let q = (p.each i (omega arith)).large (ap is_large e) in
+    let d : place_in (spot_at s layout start i) ≡ place = ap place_in e in
+    omega (arith, q, d, h)
 
 -- ---- a window from its first function to its last
 
@@ -247,7 +225,7 @@ zeros_at zero k = refl
 zeros_at (suc m) zero = refl
 zeros_at (suc m) (suc k) = zeros_at m k
 
-pub filled_first : (n : ℕ) (f : ℕ → Spot) (first m : ℕ) → m ≡ slots → Filled n f first 0 (replicate m 0)
+pub filled_first : (n : ℕ) (f : ℕ → Option ℕ) (first m : ℕ) → m ≡ slots → Filled n f first 0 (replicate m 0)
 unfolding entry_at
 filled_first n f first m d = record {
   long = length-replicate m 0 ∙ d;
@@ -256,25 +234,36 @@ filled_first n f first m d = record {
   lowest = λ k v e. let z : ◌≡◌ {A = ℕ} 0 (v + 1) = sym (zeros_at m k) ∙ e in absurd (omega (arith, z));
 }
 
-pub least_first : (n : ℕ) (f : ℕ → Spot) (first best : ℕ) → Least n f first 0 best best
+pub least_first : (n : ℕ) (f : ℕ → Option ℕ) (first best : ℕ) → Least n f first 0 best best
 least_first n f first best = record {
   real = record { less = omega arith; other = λ h. absurd (omega (arith, h)) };
   all = λ a b l h. absurd (omega (arith, h));
 }
 
-pub least_all : {n : ℕ} {f : ℕ → Spot} {first i count best low : ℕ} → i ≤ count → count ≤ i → Least n f first i best low → Least n f first count best low
-least_all {n} {f} {first} {i} {count} {best} {low} l h p = let e : i ≡ count = omega (arith, l, h) in subst (λ (k : ℕ). Least n f first k best low) e p
+-- a function with no large header, or whose large header does not start between the window's first byte and its end
+module _ (layout : Layout) (f : ℕ → Option ℕ) (first i : ℕ) (t : List ℕ) (best low : ℕ) where
+  window_skip : (is_large (f i) ≡ true → first * large_of layout ≤ place_in (f i) → (first + slots) * large_of layout ≤ place_in (f i))
+      → Filled (large_of layout) f first i t × Least (large_of layout) f first i best low
+      → Filled (large_of layout) f first (i + 1) t × Least (large_of layout) f first (i + 1) best low
+  window_skip e p =
+      let out : (k : ℕ) → k < slots → Starts (large_of layout) f (first + k) i → ⊥
+      = λ k l s. by_less (place_in (f i)) (first * large_of layout)
+      (λ h. let z = slot_below layout h in omega (arith, z, s.slot))
+      (λ h. let z = slot_above layout (e s.large h) in omega (arith, z, s.slot, l)) in
+      (filled_skip layout f first i t out p.0, least_skip layout f first i t out best low p.1)
 
--- a function whose large header does not start between the window's first byte and its end
-pub window_skip : (layout : Layout) (f : ℕ → Spot) (first i : ℕ) (t : List ℕ) (best low : ℕ)
-    → ((f i).large ≡ true → first * large_of layout ≤ (f i).place → (first + slots) * large_of layout ≤ (f i).place) → Filled (large_of layout) f first i t
-    → Least (large_of layout) f first i best low → Filled (large_of layout) f first (i + 1) t × Least (large_of layout) f first (i + 1) best low
-window_skip layout f first i t best low e p q =
-    let out : (k : ℕ) → k < slots → Starts (large_of layout) f (first + k) i → ⊥
-    = λ k l s. by_less (f i).place (first * large_of layout)
-    (λ h. let z = slot_below layout h in omega (arith, z, s.slot))
-    (λ h. let z = slot_above layout (e s.large h) in omega (arith, z, s.slot, l)) in
-    (filled_skip layout f first i t out p, least_skip layout f first i t out best low q)
+  pub window_off : None ≡ f i → Filled (large_of layout) f first i t × Least (large_of layout) f first i best low
+      → Filled (large_of layout) f first (i + 1) t × Least (large_of layout) f first (i + 1) best low
+  window_off q p = window_skip (λ e h. absurd (truth_clash e (sym (ap is_large q)))) p
 
-pub readable_up : {s : List ℕ} {layout : Layout} {start count i : ℕ} → Readable s layout start count → i < count → Readable s layout start (i + 1)
-readable_up p h = record { each = λ k l. p.each k (omega (arith, l, h)) }
+  module _ {size place : ℕ} (w : size ≡ large_of layout) (q : Some place ≡ f i) where
+    place_is : place ≡ place_in (f i)
+    place_is = ap place_in q
+
+    pub window_before : place < first * size → Filled (large_of layout) f first i t × Least (large_of layout) f first i best low
+        → Filled (large_of layout) f first (i + 1) t × Least (large_of layout) f first (i + 1) best low
+    window_before l p = let y = rw w at l in window_skip (λ e h. absurd (omega (arith, y, h, place_is))) p
+
+    pub window_past : (first + slots) * size ≤ place → Filled (large_of layout) f first i t × Least (large_of layout) f first i best low
+        → Filled (large_of layout) f first (i + 1) t × Least (large_of layout) f first (i + 1) best low
+    window_past l p = let y = rw w at l in window_skip (λ e h. omega (arith, y, place_is)) p

@@ -3,11 +3,12 @@ use Prim.Native.Nat.{ℕ, ◌+◌, ◌≤◌, ◌<◌, min, max}
 use mathlib.Core.Path.{◌≡◌, refl, sym, ap, ◌∙◌, subst}
 use mathlib.Core.Bool.{Bool, true, false, cond}
 use mathlib.Core.List.{List}
+use Rattle.std.specs.Prelude.{Option, Some, None}
 use native.Mathlib.Omega.{arith}
 use native.Mathlib.Decide.{dec_lt}
 use lib.ListN.{length}
 use lib.Dec.{ltb, eqb}
-use borrow.Author.Tests.{lt-ltb, le-ltb, ltb-true, ltb-false, eq-eqb, ne_eqb, eqb-true, eqb-false}
+use borrow.Author.Tests.{lt-ltb, le-ltb, ltb-true, ltb-false, ne_eqb, eqb-false}
 use Rattle.hbc_io.specs.Answer.{Answer, gives, refuses, asked}
 use Rattle.hbc_io.specs.Outcome.{limit}
 use Rattle.hbc_io.specs.Lends.{below}
@@ -15,33 +16,30 @@ use Rattle.hbc_io.proofs.Exits.{not_given}
 use Rattle.hbc_function_record.specs.declared.Layout.{Layout}
 use Rattle.hbc_function_record.specs.Record.{size_of, large_of}
 use Rattle.hbc_io.specs.declared.Refusal.{Refusal}
-use Rattle.hbc_function_header.specs.declared.Grounded.{Grounded}
 use Rattle.hbc_function_header.specs.declared.Ground.{Ground}
 use Rattle.hbc_function_header.specs.declared.Ground.TheVariants as ground
-use Rattle.hbc_function_header.specs.Header.{header_at, ground_of, ground_at, where_of, where_at, found, record_at, function_at, read_function, function_ground, says_grounded}
+use Rattle.hbc_function_header.specs.Header.{header_at, ground_here, ground_of, ground_at, where_of, where_at, found, record_at, function_at, read_function, function_ground}
 use Rattle.hbc_function_header.specs.Meets.{overlap}
-use Rattle.hbc_lowest.specs.Lowest.{some}
-use Rattle.hbc_lowest.proofs.Laws.{None, some_is, some_none, truth_clash}
-use Rattle.hbc_clean_large.specs.declared.Spot.{Spot}
-use Rattle.hbc_clean_large.specs.Large.{table_end, early, shares, shares_any, breaks_large}
+use Rattle.hbc_lowest.proofs.Laws.{some_is, some_none, truth_clash}
+use Rattle.hbc_clean_large.specs.Large.{table_end, early, shares, breaks_large}
 use Rattle.hbc_function_header.proofs.Headers.{read_at}
-use Rattle.hbc_clean_large.specs.Private.{spot_of, spot_at, Here, Readable, Touch, Share}
+use Rattle.hbc_clean_large.specs.Private.{spot_of, is_large, place_in, spot_at, Here, Readable, Touch, Share}
 
 -- ---- a function that can be read
 
 module _ (s : List ℕ) (layout : Layout) (at i : ℕ) where
   room_by : (place : ℕ) (a b : Bool) → ltb (length s) place ≡ a → ltb (length s) (place + large_of layout) ≡ b
-      → asked (found s layout at i (where_of s (large_of layout) (ground.Large at place))) ≡ gives tt → place + large_of layout ≤ length s
+      → asked (found s layout at i (where_of s (large_of layout) (Some (ground.Large at place)))) ≡ gives tt → place + large_of layout ≤ length s
   unfolding where_of below
   room_by place true b e f h = absurd (not_given (rw (e) at h))
   room_by place false true e f h = absurd (not_given (rw (e, f) at h))
   room_by place false false e f h = ltb-false (length s) (place + large_of layout) f
 
-  large_room : (g : Ground) → asked (found s layout at i (where_of s (large_of layout) g)) ≡ gives tt → (spot_of g).large ≡ true → (spot_of g).place + large_of layout ≤ length s
+  large_room : (g : Option Ground) → asked (found s layout at i (where_of s (large_of layout) g)) ≡ gives tt → is_large (spot_of g) ≡ true → place_in (spot_of g) + large_of layout ≤ length s
   unfolding where_of
-  large_room ground.None h e = absurd (truth_clash e refl)
-  large_room (ground.Inline p) h e = absurd (truth_clash e refl)
-  large_room (ground.Large p place) h e = room_by place (ltb (length s) place) (ltb (length s) (place + large_of layout)) refl refl h
+  large_room None h e = absurd (truth_clash e refl)
+  large_room (Some (ground.Inline p)) h e = absurd (truth_clash e refl)
+  large_room (Some (ground.Large p place)) h e = room_by place (ltb (length s) place) (ltb (length s) (place + large_of layout)) refl refl h
 
   own_by : (b : Bool) → ltb (length s) (at + size_of layout) ≡ b → asked (found s layout at i (where_at s layout at)) ≡ gives tt → at + size_of layout ≤ length s
   unfolding where_at where_of ground_of below
@@ -67,45 +65,45 @@ overlap_touch : (n p q : ℕ) → overlap p n q (q + n) ≡ true → Touch n p q
 unfolding overlap
 overlap_touch n p q e = let h = ltb-true (max p q) (min (p + n) (q + n)) e in record { left = omega (arith, h); right = omega (arith, h) }
 
-shares_true : (n : ℕ) (g h : Ground) → (spot_of g).large ≡ true → (spot_of h).large ≡ true → Touch n (spot_of g).place (spot_of h).place → shares n g h ≡ true
+shares_true : (n : ℕ) (g h : Option Ground) → is_large (spot_of g) ≡ true → is_large (spot_of h) ≡ true → Touch n (place_in (spot_of g)) (place_in (spot_of h)) → shares n g h ≡ true
 unfolding shares
-shares_true n ground.None h e f t = absurd (truth_clash e refl)
-shares_true n (ground.Inline a) h e f t = absurd (truth_clash e refl)
-shares_true n (ground.Large a p) ground.None e f t = absurd (truth_clash f refl)
-shares_true n (ground.Large a p) (ground.Inline b) e f t = absurd (truth_clash f refl)
-shares_true n (ground.Large a p) (ground.Large b q) e f t = touch_overlap n p q t
+shares_true n None h e f t = absurd (truth_clash e refl)
+shares_true n (Some (ground.Inline a)) h e f t = absurd (truth_clash e refl)
+shares_true n (Some (ground.Large a p)) None e f t = absurd (truth_clash f refl)
+shares_true n (Some (ground.Large a p)) (Some (ground.Inline b)) e f t = absurd (truth_clash f refl)
+shares_true n (Some (ground.Large a p)) (Some (ground.Large b q)) e f t = touch_overlap n p q t
 
-shares_false : (n : ℕ) (g h : Ground) → ((spot_of g).large ≡ true → (spot_of h).large ≡ true → Touch n (spot_of g).place (spot_of h).place → ⊥) → shares n g h ≡ false
+shares_false : (n : ℕ) (g h : Option Ground) → (is_large (spot_of g) ≡ true → is_large (spot_of h) ≡ true → Touch n (place_in (spot_of g)) (place_in (spot_of h)) → ⊥) → shares n g h ≡ false
 unfolding shares
-shares_false n ground.None h f = refl
-shares_false n (ground.Inline a) h f = refl
-shares_false n (ground.Large a p) ground.None f = refl
-shares_false n (ground.Large a p) (ground.Inline b) f = refl
-shares_false n (ground.Large a p) (ground.Large b q) f = by (overlap p n q (q + n)) refl
+shares_false n None h f = refl
+shares_false n (Some (ground.Inline a)) h f = refl
+shares_false n (Some (ground.Large a p)) None f = refl
+shares_false n (Some (ground.Large a p)) (Some (ground.Inline b)) f = refl
+shares_false n (Some (ground.Large a p)) (Some (ground.Large b q)) f = by (overlap p n q (q + n)) refl
   where
     by : (x : Bool) → overlap p n q (q + n) ≡ x → x ≡ false
     by true e = absurd (f refl refl (overlap_touch n p q e))
     by false e = refl
 
-early_true : (end : ℕ) (g : Ground) → (spot_of g).large ≡ true → (spot_of g).place < end → early end g ≡ true
+early_true : (end : ℕ) (g : Option Ground) → is_large (spot_of g) ≡ true → place_in (spot_of g) < end → early end g ≡ true
 unfolding early
-early_true end ground.None e h = absurd (truth_clash e refl)
-early_true end (ground.Inline a) e h = absurd (truth_clash e refl)
-early_true end (ground.Large a p) e h = lt-ltb _ _ h
+early_true end None e h = absurd (truth_clash e refl)
+early_true end (Some (ground.Inline a)) e h = absurd (truth_clash e refl)
+early_true end (Some (ground.Large a p)) e h = lt-ltb _ _ h
 
-early_false : (end : ℕ) (g : Ground) → ((spot_of g).large ≡ true → end ≤ (spot_of g).place) → early end g ≡ false
+early_false : (end : ℕ) (g : Option Ground) → (is_large (spot_of g) ≡ true → end ≤ place_in (spot_of g)) → early end g ≡ false
 unfolding early
-early_false end ground.None h = refl
-early_false end (ground.Inline a) h = refl
-early_false end (ground.Large a p) h = le-ltb p end (h refl)
+early_false end None h = refl
+early_false end (Some (ground.Inline a)) h = refl
+early_false end (Some (ground.Large a p)) h = le-ltb p end (h refl)
 
 -- ---- what breaks the rule
 
 module _ (s : List ℕ) (layout : Layout) (start count : ℕ) where
-  abbrev f : ℕ → Spot
+  abbrev f : ℕ → Option ℕ
   f = spot_at s layout start
 
-  pub breaks_early : (i : ℕ) → (f i).large ≡ true → (f i).place < table_end layout start count → breaks_large s layout start count i ≡ true
+  pub breaks_early : (i : ℕ) → is_large (f i) ≡ true → place_in (f i) < table_end layout start count → breaks_large s layout start count i ≡ true
   unfolding breaks_large spot_at
   breaks_early i e h = rw (early_true (table_end layout start count) (ground_at s layout start i) e h)
 
@@ -127,7 +125,7 @@ module _ (s : List ℕ) (layout : Layout) (start count : ℕ) where
       shares_false (large_of layout) (ground_at s layout start i) (ground_at s layout start j)
       (λ a b t. p (eqb-false i j e) (record { one = a; other = b; touch = t }))
 
-  pub breaks_not : (i : ℕ) → ((f i).large ≡ true → table_end layout start count ≤ (f i).place)
+  pub breaks_not : (i : ℕ) → (is_large (f i) ≡ true → table_end layout start count ≤ place_in (f i))
       → ((j : ℕ) → j < count → (i ≡ j → ⊥) → Share (large_of layout) f i j → ⊥) → breaks_large s layout start count i ≡ false
   unfolding breaks_large spot_at
   breaks_not i h p =
@@ -137,16 +135,22 @@ module _ (s : List ℕ) (layout : Layout) (start count : ℕ) where
 -- ---- what the reader finds of a function that can be read
 
 module _ (s : List ℕ) (layout : Layout) (start i : ℕ) (h : start ≤ length s) (l : length s ≤ limit) (here : Here s layout start i) where
-  ground_is : function_ground s layout start i ≡ gives (ground_at s layout start i)
+  abbrev here_ground : Ground
+  here_ground = ground_here s layout (header_at layout start i)
+
+  ground_is : gives here_ground ≡ function_ground s layout start i
   unfolding function_ground below
   ground_is = rw (le-ltb limit (length s) l, le-ltb (length s) start h, le-ltb (length s) (header_at layout start i + size_of layout) here.own)
 
-  pub spot_got : (a : Grounded) (g : Ground) → says_grounded a ≡ function_ground s layout start i → says_grounded a ≡ gives g → spot_of g ≡ spot_at s layout start i
-  unfolding spot_at
-  spot_got a g e d = let q : gives g ≡ gives (ground_at s layout start i) = sym d ∙ e ∙ ground_is in let z : g ≡ ground_at s layout start i = cc in ap spot_of z
+  spot_is : spot_of (Some here_ground) ≡ spot_at s layout start i
+  unfolding spot_at ground_at ground_of below
+  spot_is = rw (le-ltb (length s) (header_at layout start i + size_of layout) here.own)
 
-  pub spot_refused : (a : Grounded) {r : Refusal} → says_grounded a ≡ function_ground s layout start i → says_grounded a ≡ refuses r → ⊥
-  spot_refused a e d = not_given (sym d ∙ e ∙ ground_is)
+  pub spot_got : (g : Ground) → gives g ≡ function_ground s layout start i → spot_of (Some g) ≡ spot_at s layout start i
+  spot_got g e = let q : gives g ≡ gives here_ground = e ∙ sym ground_is in let z : g ≡ here_ground = cc in ap (λ (x : Ground). spot_of (Some x)) z ∙ spot_is
+
+  pub spot_refused : {A : Type 0} {r : Refusal} → refuses r ≡ function_ground s layout start i → A
+  spot_refused e = absurd (not_given (e ∙ sym ground_is))
 
 -- ---- one function after another
 
@@ -160,18 +164,7 @@ readable_next {s} {layout} {start} {i} p h = record { each = λ k l. by k l (dec
     by k l (yes m) = p.each k m
     by k l (no m) = let z : i ≡ k = omega (arith, l, m) in subst (Here s layout start) z h
 
-pub readable_all : {s : List ℕ} {layout : Layout} {start i count : ℕ} → Readable s layout start i → count ≤ i → Readable s layout start count
-readable_all p h = record { each = λ k l. p.each k (omega (arith, l, h)) }
-
 -- what the reader says of a function in a file that is opened
 pub asked_at : (s : List ℕ) (layout : Layout) (start i : ℕ) {a : Answer (Unit {0})} → start ≤ length s → length s ≤ limit → a ≡ asked (read_function s layout start i)
     → a ≡ asked (function_at s layout start i)
 asked_at s layout start i h l e = e ∙ ap asked (sym (read_at s layout start i l h))
-
--- a large header that is in the file
-pub fits : {s : List ℕ} {layout : Layout} {start i : ℕ} {p : Spot} → Here s layout start i → p ≡ spot_at s layout start i → p.large ≡ true
-    → p.place + large_of layout ≤ length s
-fits {s} {layout} {start} {i} h e d =
-    let q = h.large (sym (ap (λ (x : Spot). x.large) e) ∙ d) in
-    let z : _ ≡ (spot_at s layout start i).place = ap (λ (x : Spot). x.place) e in
-    omega (arith, q, z)

@@ -1,18 +1,17 @@
 -- Slots of one header's length: what shares a byte starts in the same slot or in the one beside it, and what starts in the same slot shares one.
 use Prim.Native.Nat.{ℕ, ◌+◌, ◌-◌, ◌*◌, ◌/◌, ◌≤◌, ◌<◌}
-use mathlib.Core.Path.{◌≡◌, refl, sym, ap, ◌∙◌, subst}
-use mathlib.Core.Bool.{true}
+use mathlib.Core.Path.{◌≡◌}
+use Rattle.std.specs.Prelude.{Option}
 use native.Mathlib.Omega.{arith}
 use Rattle.hbc_function_record.specs.declared.Layout.{Layout}
 use Rattle.hbc_function_record.specs.declared.Layout.TheVariants as lay
 use Rattle.hbc_function_record.specs.Record.{size_of, large_of}
-use Rattle.hbc_clean_large.specs.declared.Spot.{Spot}
-use Rattle.hbc_clean_large.specs.Private.{Touch, Share, slot, slots}
+use Rattle.hbc_clean_large.specs.Private.{Touch, Share, slot}
 
 pub touch_back : {n p q : ℕ} → Touch n p q → Touch n q p
 touch_back t = record { left = t.right; right = t.left }
 
-pub share_back : {n : ℕ} {f : ℕ → Spot} {i j : ℕ} → Share n f i j → Share n f j i
+pub share_back : {n : ℕ} {f : ℕ → Option ℕ} {i j : ℕ} → Share n f i j → Share n f j i
 share_back s = record { one = s.other; other = s.one; touch = touch_back s.touch }
 
 -- at most one slot further on

@@ -1,22 +1,22 @@
 -- One pass over functions in order, all windows one after another, and the lowest function that comes of them.
-use Prim.Native.Nat.{ℕ, ◌+◌, ◌-◌, ◌*◌, ◌/◌, ◌≤◌, ◌<◌}
-use mathlib.Core.Path.{◌≡◌, refl, sym, ap, ◌∙◌, subst}
-use mathlib.Core.Bool.{Bool, true, false}
+use Prim.Native.Nat.{ℕ, ◌+◌, ◌-◌, ◌/◌, ◌≤◌, ◌<◌}
+use mathlib.Core.Path.{◌≡◌, sym, subst}
+use mathlib.Core.Bool.{true}
 use mathlib.Core.List.{List}
+use Rattle.std.specs.Prelude.{Option}
 use native.Mathlib.Omega.{arith}
 use lib.ListN.{length}
 use Rattle.hbc_function_record.specs.declared.Layout.{Layout}
 use Rattle.hbc_function_record.specs.Record.{large_of}
 use Rattle.hbc_lowest.specs.Lowest.{lowest_of}
-use Rattle.hbc_lowest.proofs.Laws.{Is, None, lowest_is, lowest_none}
-use Rattle.hbc_clean_large.specs.declared.Spot.{Spot}
+use Rattle.hbc_lowest.proofs.Laws.{lowest_is, lowest_none}
 use Rattle.hbc_clean_large.specs.Large.{table_end, breaks_large}
-use Rattle.hbc_clean_large.specs.Private.{spot_at, Readable, Touch, Share, slot, slots, Within, Later, Real, Least, Swept, Tidy, Early}
+use Rattle.hbc_clean_large.specs.Private.{is_large, place_in, spot_at, Share, slot, Later, Real, Least, Swept, Tidy, Early}
 use Rattle.hbc_clean_large.proofs.Slots.{touch_back, share_back, near, slot_up, slot_small}
-use Rattle.hbc_clean_large.proofs.Filling.{by_less, by_same}
+use Rattle.hbc_clean_large.proofs.Filling.{by_less}
 use Rattle.hbc_clean_large.proofs.Grounds.{breaks_early, breaks_share, breaks_not}
 
-module _ (layout : Layout) (f : ℕ → Spot) (count : ℕ) where
+module _ (layout : Layout) (f : ℕ → Option ℕ) (count : ℕ) where
   abbrev n : ℕ
   n = large_of layout
 
@@ -39,12 +39,12 @@ module _ (layout : Layout) (f : ℕ → Spot) (count : ℕ) where
     all = λ a b l h s x y z.
         let right = near layout s.touch in
         let left = near layout (touch_back s.touch) in
-        let behind : (to ≤ slot n (f a).place → to ≤ slot n (f b).place → ⊥) → r ≤ a = λ w. let v = p.all a b l h s x y w in omega (arith, v, q.real.less) in
-        by_less (slot n (f a).place) to (λ w. behind (λ u v. omega (arith, w, u))) (λ w.
-        by_less (slot n (f b).place) to (λ o. behind (λ u v. omega (arith, o, v))) (λ o.
-        by_less (slot n (f a).place) (to + 65535)
+        let behind : (to ≤ slot n (place_in (f a)) → to ≤ slot n (place_in (f b)) → ⊥) → r ≤ a = λ w. let v = p.all a b l h s x y w in omega (arith, v, q.real.less) in
+        by_less (slot n (place_in (f a))) to (λ w. behind (λ u v. omega (arith, w, u))) (λ w.
+        by_less (slot n (place_in (f b))) to (λ o. behind (λ u v. omega (arith, o, v))) (λ o.
+        by_less (slot n (place_in (f a))) (to + 65535)
         (λ u. q.all a b l h s (record { from = w; to = omega (arith, u) }) (record { from = o; to = omega (arith, u, left) })) (λ u.
-        by_less (slot n (f b).place) (to + 65535)
+        by_less (slot n (place_in (f b))) (to + 65535)
         (λ v. q.all a b l h s (record { from = w; to = omega (arith, v, right) }) (record { from = o; to = omega (arith, v) })) (λ v.
         absurd (z u v)))));
   }
@@ -57,7 +57,7 @@ module _ (layout : Layout) (f : ℕ → Spot) (count : ℕ) where
   }
 
   -- all places are behind the last window
-  pub swept_all : {from to best r : ℕ} → Swept n f from to count best r → ((i : ℕ) → i < count → (f i).large ≡ true → slot n (f i).place < to) → (end : ℕ)
+  pub swept_all : {from to best r : ℕ} → Swept n f from to count best r → ((i : ℕ) → i < count → is_large (f i) ≡ true → slot n (place_in (f i)) < to) → (end : ℕ)
       → Swept n f from end count best r
   swept_all p h end = record {
     real = p.real;
@@ -69,69 +69,20 @@ module _ (layout : Layout) (f : ℕ → Spot) (count : ℕ) where
   -- so far each starts at or after the end, and all end at or before `floor`
   pub record Rising (end i floor : ℕ) : Type 0 where
     pub up : end ≤ floor
-    pub late : (k : ℕ) → k < i → (f k).large ≡ true → end ≤ (f k).place
-    pub ends : (k : ℕ) → k < i → (f k).large ≡ true → (f k).place + n ≤ floor
+    pub late : (k : ℕ) → k < i → is_large (f k) ≡ true → end ≤ place_in (f k)
+    pub ends : (k : ℕ) → k < i → is_large (f k) ≡ true → place_in (f k) + n ≤ floor
     pub apart : (a b : ℕ) → a < b → b < i → Share n f a b → ⊥
-
-  pub rising_first : (end : ℕ) → Rising end 0 end
-  rising_first end = record { up = omega arith; late = λ k l. absurd (omega (arith, l)); ends = λ k l. absurd (omega (arith, l)); apart = λ a b l h. absurd (omega (arith, h)) }
-
-  pub rising_skip : {end i floor : ℕ} → Rising end i floor → (f i).large ≡ false → Rising end (i + 1) floor
-  rising_skip {end} {i} {floor} p e = record {
-    up = p.up;
-    late = λ k l h. by_same k i (λ q. absurd (not_here k q h)) (λ q. p.late k (omega (arith, l, q)) h);
-    ends = λ k l h. by_same k i (λ q. absurd (not_here k q h)) (λ q. p.ends k (omega (arith, l, q)) h);
-    apart = λ a b l h s. by_same b i (λ q. not_here b q s.other) (λ q. p.apart a b l (omega (arith, h, q)) s);
-  }
-    where
-      not_here : (k : ℕ) → k ≡ i → (f k).large ≡ true → ⊥
-      not_here k q h = let z : ◌≡◌ {A = Bool} true false = sym h ∙ ap (λ (j : ℕ). (f j).large) q ∙ e in let w : ◌≡◌ {A = ℕ} 0 1 = cc in omega arith
-
-  rising_next : {end i floor : ℕ} → Rising end i floor → floor ≤ (f i).place → Rising end (i + 1) ((f i).place + n)
-  rising_next {end} {i} {floor} p h = record {
-    up = omega (arith, p.up, h);
-    late = λ k l e. by_same k i (λ q. let z : (f k).place ≡ (f i).place = ap (λ (j : ℕ). (f j).place) q in omega (arith, z, p.up, h)) (λ q. p.late k (omega (arith, l, q)) e);
-    ends = λ k l e. by_same k i (λ q. let z : (f k).place ≡ (f i).place = ap (λ (j : ℕ). (f j).place) q in omega (arith, z))
-        (λ q. let z = p.ends k (omega (arith, l, q)) e in omega (arith, z, h));
-    apart = λ a b l m s. by_same b i
-        (λ q. let z : (f b).place ≡ (f i).place = ap (λ (j : ℕ). (f j).place) q in
-        let y = p.ends a (omega (arith, l, q)) s.one in omega (arith, z, y, h, s.touch.right))
-        (λ q. p.apart a b l (omega (arith, m, q)) s);
-  }
-
-  -- with the end of the last one
-  pub rising_to : {end i floor m : ℕ} → Rising end i floor → floor ≤ (f i).place → m ≡ (f i).place + n → Rising end (i + 1) m
-  rising_to {end} {i} p h e = subst (Rising end (i + 1)) (sym e) (rising_next p h)
-
-  pub rising_all : {end i floor : ℕ} → Rising end i floor → count ≤ i → Tidy n f end count
-  rising_all p h = record { late = λ k l. p.late k (omega (arith, l, h)); apart = λ a b l m. p.apart a b l (omega (arith, m, h)) }
 
 -- ---- the first that starts before the end
 
-module _ (f : ℕ → Spot) (end count : ℕ) where
+module _ (f : ℕ → Option ℕ) (end count : ℕ) where
   pub record NotEarly (i : ℕ) : Type 0 where
-    pub late : (k : ℕ) → k < i → (f k).large ≡ true → end ≤ (f k).place
-
-  pub not_early_first : NotEarly 0
-  not_early_first = record { late = λ k l. absurd (omega (arith, l)) }
-
-  pub not_early_next : {i : ℕ} → NotEarly i → ((f i).large ≡ true → end ≤ (f i).place) → NotEarly (i + 1)
-  not_early_next {i} p h = record {
-    late = λ k l e. by_same k i
-        (λ q. let y = h (subst (λ (j : ℕ). (f j).large ≡ true) q e) in let z : (f k).place ≡ (f i).place = ap (λ (j : ℕ). (f j).place) q in omega (arith, y, z))
-        (λ q. p.late k (omega (arith, l, q)) e);
-  }
-
-  pub early_here : {i : ℕ} → NotEarly i → i < count → (f i).large ≡ true → (f i).place < end → Early f end count i
-  early_here p l e h = record { most = omega (arith, l); so = λ _. (e, h); not = p.late }
-
-  pub early_none : {i : ℕ} → NotEarly i → i ≤ count → count ≤ i → Early f end count i
-  early_none p l h = record { most = l; so = λ m. absurd (omega (arith, m, h)); not = p.late }
+    pub late : (k : ℕ) → k < i → is_large (f k) ≡ true → end ≤ place_in (f k)
 
 -- ---- the lowest
 
 module _ (s : List ℕ) (layout : Layout) (start count : ℕ) where
-  abbrev spots : ℕ → Spot
+  abbrev spots : ℕ → Option ℕ
   spots = spot_at s layout start
 
   abbrev end : ℕ
@@ -153,7 +104,7 @@ module _ (s : List ℕ) (layout : Layout) (start count : ℕ) where
       })
 
   module _ {e r : ℕ} (p : Early spots end count e) (q : Swept (large_of layout) spots (end / large_of layout - 1) (length s) count e r)
-      (short : (i : ℕ) → i < count → (spots i).large ≡ true → (spots i).place < length s) where
+      (short : (i : ℕ) → i < count → is_large (spots i) ≡ true → place_in (spots i) < length s) where
     most : r ≤ count
     most = omega (arith, p.most, q.real.less)
 
@@ -163,8 +114,8 @@ module _ (s : List ℕ) (layout : Layout) (start count : ℕ) where
         breaks_share s layout start count r x.index x.below (λ z. omega (arith, z, x.after)) x.share)
         (λ h. let z : r ≡ e = omega (arith, h, q.real.less) in
         let y = p.so (omega (arith, l, z)) in
-        breaks_early s layout start count r (subst (λ (j : ℕ). (spots j).large ≡ true) (sym z) y.0)
-        (subst (λ (j : ℕ). (spots j).place < end) (sym z) y.1))
+        breaks_early s layout start count r (subst (λ (j : ℕ). is_large (spots j) ≡ true) (sym z) y.0)
+        (subst (λ (j : ℕ). place_in (spots j) < end) (sym z) y.1))
 
     -- a pair whose lower function is below r, and so does not start before the end
     none_below : (a b : ℕ) → a < b → b < count → a < r → Share (large_of layout) spots a b → ⊥
@@ -173,7 +124,7 @@ module _ (s : List ℕ) (layout : Layout) (start count : ℕ) where
         let own = slot_up layout late in
         let beside = near layout x.touch in
         let last = short b h x.other in
-        let z = q.all a b l h x (omega (arith, own)) (omega (arith, own, beside)) (λ u v. omega (arith, v, slot_small layout (spots b).place, last)) in
+        let z = q.all a b l h x (omega (arith, own)) (omega (arith, own, beside)) (λ u v. omega (arith, v, slot_small layout (place_in (spots b)), last)) in
         omega (arith, z, m)
 
     pub lowest_large : r ≡ lowest_of (breaks_large s layout start count) count

@@ -1,5 +1,5 @@
 -- docs/FORMAT.md, section 12.2: large headers start at or after the table's end and share no bytes.
-use Rattle.std.specs.Prelude.{ℕ, ◌+◌, ◌*◌, List, Bool, true, false, cond, not, ltb, eqb}
+use Rattle.std.specs.Prelude.{ℕ, ◌+◌, ◌*◌, List, Option, Some, None, Bool, true, false, cond, ltb, eqb}
 use Rattle.hbc_io.specs.Answer.{Answer, gives, and_then}
 use Rattle.hbc_function_record.specs.declared.Layout.{Layout}
 use Rattle.hbc_function_record.specs.Record.{large_of}
@@ -16,18 +16,18 @@ abbrev pub table_end : Layout → ℕ → ℕ → ℕ
 table_end layout start count = header_at layout start count
 
 -- a large header that starts before it
-unfoldable pub early : ℕ → Ground → Bool
-early end ground.None = false
-early end (ground.Inline at) = false
-early end (ground.Large at place) = ltb place end
+unfoldable pub early : ℕ → Option Ground → Bool
+early end None = false
+early end (Some (ground.Inline at)) = false
+early end (Some (ground.Large at place)) = ltb place end
 
 -- two large headers, of n bytes each, that share a byte
-unfoldable pub shares : ℕ → Ground → Ground → Bool
-shares n ground.None h = false
-shares n (ground.Inline at) h = false
-shares n (ground.Large at place) ground.None = false
-shares n (ground.Large at place) (ground.Inline at₂) = false
-shares n (ground.Large at place) (ground.Large at₂ place₂) = overlap place n place₂ (place₂ + n)
+unfoldable pub shares : ℕ → Option Ground → Option Ground → Bool
+shares n None h = false
+shares n (Some (ground.Inline at)) h = false
+shares n (Some (ground.Large at place)) None = false
+shares n (Some (ground.Large at place)) (Some (ground.Inline at₂)) = false
+shares n (Some (ground.Large at place)) (Some (ground.Large at₂ place₂)) = overlap place n place₂ (place₂ + n)
 
 -- function i's large header shares a byte with that of another of the functions
 abbrev pub shares_any : List ℕ → Layout → ℕ → ℕ → ℕ → Bool

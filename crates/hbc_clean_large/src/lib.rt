@@ -3,63 +3,49 @@
 // it is enough to keep the first function of each slot, and the passes are no more than the windows of a file, however many functions there are.
 #![tactic(auto)]
 
-ghost use Rattle.std.specs.Prelude.{◌≡◌, true, false, ℕ, ◌+◌, ◌-◌, ◌*◌, ◌/◌, ◌≤◌, ◌<◌, ◌^◌, length};
+ghost use Rattle.std.specs.Prelude.{◌≡◌, Some, true, false, ℕ, ◌+◌, ◌-◌, ◌*◌, ◌/◌, ◌≤◌, ◌<◌, ◌^◌, length};
 ghost use Rattle.hbc_io.specs.Answer.{gives, asked};
 ghost use Rattle.hbc_io.specs.Outcome.{limit};
-ghost use Rattle.hbc_function_header.specs.Header.{says_reading, function_at};
+ghost use Rattle.hbc_io.specs.Answers.{answered};
+ghost use Rattle.hbc_function_header.specs.Header.{function_at};
 ghost use Rattle.hbc_function.specs.Table.{scan, all};
-ghost use Rattle.hbc_lowest.specs.Lowest.{says_lowest, lowest_of};
+ghost use Rattle.hbc_lowest.specs.Lowest.{lowest_of};
 ghost use Rattle.hbc_function_record.specs.Record.{large_of};
 ghost use Rattle.hbc_clean_large.specs.Large.{breaks_large, check_large};
-ghost use Rattle.hbc_clean_large.specs.Private.{spot_at, Here, Readable, slots, Tidy, Early, Nearer, Filled, Least, Looked, Swept, SweptOn};
+ghost use Rattle.hbc_clean_large.specs.Private.{spot_at, is_large, Here, Readable, slots, Tidy, Early, Nearer, Filled, Least, Looked, Swept, SweptOn};
 
-use hbc_function_header::{Grounded, Reading, check_function, function_ground};
+use hbc_function_header::{Ground, Reading, check_function, function_ground};
 use hbc_function_record::{Layout, header_size, large_size};
-use hbc_io::{LIMIT, refuse};
+use hbc_io::{LIMIT, Reason, refuse};
 use hbc_lowest::Lowest;
 use hbc_rows::word_of;
 
 // How many slots a window has: 256 KiB of stack.
 const SLOTS: usize = 65536;
 
-// A function's large header, if it has one.
-#[derive(Clone, Copy)]
-pub struct Spot {
-    pub large: bool,
-    pub place: usize,
-}
-
-fn spot_of(s: &[u8], layout: Layout, start: usize, id: u32) -> Spot
+// Where a function's large header is, if it has one.
+fn spot_of(s: &[u8], layout: Layout, start: usize, id: u32) -> Option<usize>
     requires { (start ≤ length s.now) × (length s.now ≤ limit) × Here s.now layout start id }
     ensures { result ≡ spot_at s.now layout start id }
 {
     match function_ground(s, layout, start, id) {
-        Grounded::Inline(_) => Spot {
-            large: false,
-            place: 0,
-        },
-        Grounded::Large(_, place) => Spot { large: true, place },
-        Grounded::Refused(r) => Spot {
-            large: false,
-            place: 0,
-        },
+        Ok(Ground::Large(_, place)) => Some(place),
+        Ok(Ground::Inline(_)) => None,
+        Err(_) => None,
     }
 }
 
 // The first refusal among functions 0 to count - 1.
+#[tactic(auto, using(hbc_function::proofs::Laws::scanning))]
 fn check_all(s: &[u8], layout: Layout, start: usize, count: u32) -> Reading
     requires { (start ≤ length s.now) × (length s.now ≤ limit) }
-    ensures result_value { says_reading result ≡ asked (scan all (function_at s.now layout start) count) }
-    ensures readable { says_reading result ≡ gives tt → Readable s.now layout start count }
+    ensures result_value { answered result ≡ asked (scan all (function_at s.now layout start) count) }
+    ensures readable { answered result ≡ gives tt → Readable s.now layout start count }
 {
-    let mut id: u32 = 0;
-    while id < count {
-        if let Reading::Refused(r) = check_function(s, layout, start, id) {
-            return Reading::Refused(r);
-        }
-        id += 1;
+    for id in 0..count {
+        check_function(s, layout, start, id)?;
     }
-    Reading::Read
+    Ok(())
 }
 
 // One pass: whether each large header starts where the one before it ends, or later, the first at or after the table's end.
@@ -69,29 +55,16 @@ fn is_rising(s: &[u8], layout: Layout, start: usize, count: u32, end: usize) -> 
 {
     let size = large_size(layout);
     let mut floor = end;
-    let mut id: u32 = 0;
-    while id < count {
-        let spot = spot_of(s, layout, start, id);
-        if spot.large {
-            if spot.place < floor {
-                return false;
-            }
-            floor = spot.place + size;
-            id += 1;
-        } else {
-            id += 1;
+    for id in 0..count {
+        let Some(place) = spot_of(s, layout, start, id) else {
+            continue;
+        };
+        if place < floor {
+            return false;
         }
+        floor = place + size;
     }
     true
-}
-
-fn starts_early(spot: Spot, end: usize) -> bool
-    ensures { (result ≡ true → (spot.large ≡ true) × (spot.place < end)) × (result ≡ false → spot.large ≡ true → end ≤ spot.place) }
-{
-    if spot.large {
-        return spot.place < end;
-    }
-    false
 }
 
 // The lowest function whose large header starts before the table's end.
@@ -99,20 +72,20 @@ fn first_early(s: &[u8], layout: Layout, start: usize, count: u32, end: usize) -
     requires { (start ≤ length s.now) × (length s.now ≤ limit) × Readable s.now layout start count }
     ensures { Early (spot_at s.now layout start) end count result }
 {
-    let mut id: u32 = 0;
-    while id < count {
-        if starts_early(spot_of(s, layout, start, id), end) {
-            return id;
+    for id in 0..count {
+        if let Some(place) = spot_of(s, layout, start, id) {
+            if place < end {
+                return id;
+            }
         }
-        id += 1;
     }
-    id
+    count
 }
 
 // The lower of `best` and the function that a slot keeps, if its large header shares a byte with the one at `place`.
 fn nearer(s: &[u8], layout: Layout, start: usize, kept: u32, place: usize, best: u32) -> u32
     requires { (start ≤ length s.now) × (length s.now ≤ limit) × (place ≤ limit) × ((v : ℕ) → kept ≡ v + 1 → Here s.now layout start v
-        × ((spot_at s.now layout start v).large ≡ true)) }
+        × (is_large (spot_at s.now layout start v) ≡ true)) }
     ensures { Nearer (large_of layout) (spot_at s.now layout start) kept place best result }
 {
     if kept == 0 {
@@ -122,7 +95,8 @@ fn nearer(s: &[u8], layout: Layout, start: usize, kept: u32, place: usize, best:
     if best <= id {
         return best;
     }
-    let other = spot_of(s, layout, start, id).place;
+    // it has one: no other function is kept
+    let other = spot_of(s, layout, start, id).unwrap_or(0);
     let size = large_size(layout);
     if other + size <= place {
         return best;
@@ -155,7 +129,7 @@ fn look(
     t: &mut [u32],
 ) -> u32
     requires { (start ≤ length s.now) × (length s.now ≤ limit) × (id < 4294967295) × Readable s.now layout start (id + 1)
-        × ((spot_at s.now layout start id).large ≡ true) × ((spot_at s.now layout start id).place ≡ place)
+        × (spot_at s.now layout start id ≡ Some place)
         × Filled (large_of layout) (spot_at s.now layout start) first id t.old }
     ensures { Looked (large_of layout) (spot_at s.now layout start) first id best result t.new }
 {
@@ -176,19 +150,6 @@ fn look(
     right
 }
 
-// Whether a large header starts from one byte on, before another.
-fn starts_in(spot: Spot, from: usize, to: usize) -> bool
-    ensures { (result ≡ true → spot.large ≡ true) × (result ≡ false → spot.large ≡ true → from ≤ spot.place → to ≤ spot.place) }
-{
-    if spot.large {
-        if spot.place < from {
-            return false;
-        }
-        return spot.place < to;
-    }
-    false
-}
-
 // One pass: the lower of `best` and the lowest function whose large header shares a byte with that of a higher one, both in the window from slot `first` on.
 // Most functions are told to be outside by a byte, and their slot is not made out.
 fn window(s: &[u8], layout: Layout, start: usize, count: u32, first: usize, best: u32) -> u32
@@ -200,15 +161,17 @@ fn window(s: &[u8], layout: Layout, start: usize, count: u32, first: usize, best
     let from = first * size;
     let to = (first + SLOTS) * size;
     let mut low = best;
-    let mut id: u32 = 0;
-    while id < count {
-        let spot = spot_of(s, layout, start, id);
-        if starts_in(spot, from, to) {
-            low = look(s, layout, start, id, first, spot.place, low, &mut t);
-            id += 1;
-        } else {
-            id += 1;
+    for id in 0..count {
+        let Some(place) = spot_of(s, layout, start, id) else {
+            continue;
+        };
+        if place < from {
+            continue;
         }
+        if to <= place {
+            continue;
+        }
+        low = look(s, layout, start, id, first, place, low, &mut t);
     }
     low
 }
@@ -221,6 +184,7 @@ fn rest(s: &[u8], layout: Layout, start: usize, count: u32, from: usize, best: u
     let size = large_size(layout);
     let mut first = from;
     let mut low = best;
+    // no `for`: its end is a number of bytes, and none is lower than 0
     while first * size < s.len() {
         low = window(s, layout, start, count, first, low);
         if low == 0 {
@@ -278,17 +242,16 @@ fn lowest_large(s: &[u8], layout: Layout, start: usize, count: u32) -> u32
 }
 
 // The readers' refusal of the headers; else the lowest function whose large header is not tidy, `count` if all are.
+#[tactic(auto, using(crate::proofs::Exits::exits))]
 pub fn check_large(file: &[u8], layout: Layout, start: usize, count: u32) -> Lowest
-    ensures { says_lowest result ≡ check_large file.now layout start count }
+    ensures { answered result ≡ check_large file.now layout start count }
 {
     if LIMIT < file.len() {
-        return Lowest::Refused(refuse(1, 0));
+        return Err(refuse(Reason::TooLong as u32, 0));
     }
     if file.len() < start {
-        return Lowest::Refused(refuse(2, 0));
+        return Err(refuse(Reason::PastEnd as u32, 0));
     }
-    if let Reading::Refused(r) = check_all(file, layout, start, count) {
-        return Lowest::Refused(r);
-    }
-    Lowest::At(lowest_large(file, layout, start, count) as usize)
+    check_all(file, layout, start, count)?;
+    Ok(lowest_large(file, layout, start, count) as usize)
 }

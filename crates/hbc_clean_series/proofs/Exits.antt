@@ -17,8 +17,10 @@ use Rattle.hbc_io.proofs.Exits.{not_given}
 use Rattle.hbc_rows.specs.Rows.{entry_at, rows}
 use Rattle.hbc_buffer.specs.Series.{after, used_of, series_answer}
 use Rattle.hbc_lowest.specs.Lowest.{some, lowest_of}
-use Rattle.hbc_clean_series.specs.Series.{series_width, offset_of, count_of, passes_empty, holds_high, breaks_empty, breaks_string, read_series, read_all, check_series}
-use Rattle.hbc_clean_series.specs.Private.{marked}
+use Rattle.hbc_lowest.proofs.Laws.{lower_is}
+use Rattle.hbc_clean_series.specs.declared.Marks.{Marks}
+use Rattle.hbc_clean_series.specs.Series.{series_width, offset_of, count_of, passes_empty, holds_high, breaks_empty, breaks_string, read_series, read_all, lows, check_series}
+use Rattle.hbc_clean_series.specs.Private.{marks, marked}
 
 -- ---- one series
 
@@ -26,7 +28,7 @@ module _ {a : Answer ℕ} where
   pub marked_refused : {r : Refusal} (x y : Bool) → refuses r ≡ a → refuses r ≡ marked a x y
   marked_refused x y e = ap (λ (b : Answer ℕ). marked b x y) e
 
-  pub marked_given : {n : ℕ} {x y u v : Bool} → gives n ≡ a → x ≡ u → y ≡ v → gives (x, y) ≡ marked a u v
+  pub marked_given : {n : ℕ} {x y u v : Bool} → gives n ≡ a → x ≡ u → y ≡ v → gives (marks x y) ≡ marked a u v
   marked_given e f g = rw (← e, f, g)
 
 module _ (s : List ℕ) (offset count : ℕ) where
@@ -56,13 +58,13 @@ module _ (s : List ℕ) (offset count : ℕ) where
   unfolding series_answer below choose
   series_data h e l = rw (le-ltb _ _ h, ne_eqb _ _ e, lt-leb _ _ l, le-ltb count count (omega arith))
 
-  pub marked_data : {a : Answer (Bool × Bool)} (x y : Bool) → length s ≤ limit → (count ≡ 0 → ⊥) → offset < length s
+  pub marked_data : {a : Answer Marks} (x y : Bool) → length s ≤ limit → (count ≡ 0 → ⊥) → offset < length s
       → a ≡ marked (used_of offset (after count s (cursor_at offset))) x y → a ≡ marked (series_answer s offset count count count) x y
   marked_data x y h e l f = f ∙ ap (λ (b : Answer ℕ). marked b x y) (series_data h e l)
 
 -- ---- the buffer that a row names
 
-module _ (strings : ℕ) (keys values table : List ℕ) (j : ℕ) {w offset count : ℕ} {a : Answer (Bool × Bool)} (which : w ≡ entry_at table (j * series_width))
+module _ (strings : ℕ) (keys values table : List ℕ) (j : ℕ) {w offset count : ℕ} {a : Answer Marks} (which : w ≡ entry_at table (j * series_width))
     (place : offset ≡ offset_of table j) (many : count ≡ count_of table j) where
   pub in_values : w ≡ 0 → a ≡ marked (series_answer values offset count count count) (passes_empty values offset count) (holds_high strings values offset count)
       → a ≡ marked (read_series keys values table j) (breaks_empty keys values table j) (breaks_string strings keys values table j)
@@ -83,12 +85,12 @@ pub record Reads (strings : ℕ) (keys values table : List ℕ) (j a b : ℕ) : 
   pub high : b ≡ lowest_of (breaks_string strings keys values table) j
   pub below : j ≤ rows series_width table
 
-abbrev inside : Answer (Bool × Bool) → Bool × Bool
+abbrev inside : Answer Marks → Marks
 inside (gives p) = p
-inside (refuses r) = (false, false)
+inside (refuses r) = marks false false
 
-given_by : (o : Answer ℕ) {x y u v : Bool} → marked o x y ≡ gives (u, v) → (n : ℕ) × (o ≡ gives n) × (u ≡ x) × (v ≡ y)
-given_by (gives n) e = (n, refl, sym (ap (λ (a : Answer (Bool × Bool)). (inside a).0) e), sym (ap (λ (a : Answer (Bool × Bool)). (inside a).1) e))
+given_by : (o : Answer ℕ) {x y u v : Bool} → marked o x y ≡ gives (marks u v) → (n : ℕ) × (o ≡ gives n) × (u ≡ x) × (v ≡ y)
+given_by (gives n) e = (n, refl, sym (ap (λ (a : Answer Marks). (inside a).empty) e), sym (ap (λ (a : Answer Marks). (inside a).high) e))
 given_by (refuses r) e = absurd (not_given e)
 
 refused_by : (o : Answer ℕ) (x y : Bool) {r : Refusal} → marked o x y ≡ refuses r → o ≡ refuses r
@@ -105,10 +107,6 @@ read_stays : (keys values table : List ℕ) (i : ℕ) {r : Refusal} → read_all
 unfolding read_all
 read_stays keys values table i e = rw e refl
 
-lowest_more : (b : ℕ → Bool) {j a r : ℕ} {u : Bool} → a ≡ lowest_of b j → u ≡ b j → r ≡ cond (ltb a j) a (cond u j (j + 1)) → r ≡ lowest_of b (suc j)
-unfolding lowest_of
-lowest_more b {j} e f g = rw (g, e, f, add-one j)
-
 module _ {strings : ℕ} {keys values table : List ℕ} {j a b : ℕ} (g : Reads strings keys values table j a b) (more : j < rows series_width table) where
   read_next : {n : ℕ} → read_series keys values table j ≡ gives n → read_all keys values table (suc j) ≡ gives tt
   unfolding read_all
@@ -119,28 +117,28 @@ module _ {strings : ℕ} {keys values table : List ℕ} {j a b : ℕ} (g : Reads
   read_stop e = rw (g.all, e)
 
   -- one more
-  pub reads_more : {u v : Bool} {c d : ℕ} → marked (read_series keys values table j) (breaks_empty keys values table j) (breaks_string strings keys values table j) ≡ gives (u, v)
+  pub reads_more : {u v : Bool} {c d : ℕ} → gives (marks u v) ≡ marked (read_series keys values table j) (breaks_empty keys values table j) (breaks_string strings keys values table j)
       → c ≡ cond (ltb a j) a (cond u j (j + 1)) → d ≡ cond (ltb b j) b (cond v j (j + 1)) → Reads strings keys values table (j + 1) c d
   reads_more e p q =
-      let k = given_by (read_series keys values table j) e in
+      let k = given_by (read_series keys values table j) (sym e) in
       rw (add-one j)
       (record {
         all = read_next k.1;
-        empty = lowest_more (breaks_empty keys values table) g.empty k.2 p;
-        high = lowest_more (breaks_string strings keys values table) g.high k.3 q;
+        empty = lower_is (breaks_empty keys values table) g.empty k.2 p;
+        high = lower_is (breaks_string strings keys values table) g.high k.3 q;
         below = omega (arith, more);
       })
 
   -- one that is refused: no later one is asked
-  pub reads_refused : {r : Refusal} → marked (read_series keys values table j) (breaks_empty keys values table j) (breaks_string strings keys values table j) ≡ refuses r
+  pub reads_refused : {r : Refusal} → refuses r ≡ marked (read_series keys values table j) (breaks_empty keys values table j) (breaks_string strings keys values table j)
       → refuses r ≡ check_series strings keys values table
   unfolding check_series
   reads_refused {r} e =
-      let stop = read_stop (refused_by (read_series keys values table j) _ _ e) in
+      let stop = read_stop (refused_by (read_series keys values table j) _ _ (sym e)) in
       let stays = le_ind {n = suc j} (λ (i : ℕ). read_all keys values table i ≡ refuses r) stop (λ i l f. read_stays keys values table i f) (rows series_width table) (omega (arith, more)) in
       rw stays
 
 pub reads_done : {strings : ℕ} {keys values table : List ℕ} {j a b : ℕ} → Reads strings keys values table j a b → rows series_width table ≤ j
-    → gives (a, b) ≡ check_series strings keys values table
+    → gives (lows a b) ≡ check_series strings keys values table
 unfolding check_series
 reads_done {strings} {keys} {values} {table} {j} g h = let e : j ≡ rows series_width table = omega (arith, h, g.below) in rw (← e, g.all, g.empty, g.high)

@@ -1,13 +1,12 @@
 -- docs/FORMAT.md, sections 12.5 and 12.6: no series passes a tag of length 0, and each literal string number is below the string count.
 use Rattle.std.specs.Prelude.{ℕ, zero, suc, ◌+◌, ◌*◌, List, Bool, false, cond, not, leb, eqb}
 use Rattle.hbc_io.specs.Outcome.{Outcome, got, refused, cursor_at}
-use Rattle.hbc_io.specs.Answer.{Answer, gives, refuses, and_then}
+use Rattle.hbc_io.specs.Answer.{Answer, gives, and_then}
 use Rattle.hbc_rows.specs.Rows.{entry_at, rows}
 use Rattle.hbc_buffer.specs.Series.{Run, tag_at, after, kind_at, payload_at, series_answer}
 use Rattle.hbc_buffer_object.specs.Object.{named}
 use Rattle.hbc_lowest.specs.Lowest.{some, lowest_of}
-use Rattle.hbc_clean_series.specs.declared.Walked.{Walked}
-use Rattle.hbc_clean_series.specs.declared.Walked.TheVariants as walked
+use Rattle.hbc_clean_series.specs.declared.Lows.{Lows}
 
 -- ---- a row of three words: which buffer (0 the values, else the keys), offset, count
 
@@ -70,12 +69,12 @@ read_all keys values table (suc j) = and_then (read_all keys values table j) (λ
 -- ---- the call
 
 -- the lowest series that breaks each of the two rules
-abbrev pub says_walked : Walked → Answer (ℕ × ℕ)
-says_walked (walked.Lowest a b) = gives (a, b)
-says_walked (walked.Refused r) = refuses r
+abbrev pub lows : ℕ → ℕ → Lows
+lows empty high = record { empty = empty; high = high }
 
 -- the first refusal of a series; else the lowest series that breaks each rule, how many there are where none does
-unfoldable pub check_series : ℕ → List ℕ → List ℕ → List ℕ → Answer (ℕ × ℕ)
+unfoldable pub check_series : ℕ → List ℕ → List ℕ → List ℕ → Answer Lows
 check_series strings keys values table =
     and_then (read_all keys values table (rows series_width table)) (λ _.
-    gives (lowest_of (breaks_empty keys values table) (rows series_width table), lowest_of (breaks_string strings keys values table) (rows series_width table)))
+    gives (lows (lowest_of (breaks_empty keys values table) (rows series_width table))
+    (lowest_of (breaks_string strings keys values table) (rows series_width table))))

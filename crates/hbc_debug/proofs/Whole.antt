@@ -6,6 +6,7 @@ use Prim.Native.Nat.{ℕ, ◌≤◌}
 use borrow.Author.Tests.{leb-true}
 use native.Mathlib.Omega.{arith}
 use lib.ListN.{length}
+use Rattle.std.specs.Prelude.{Ok, Err}
 use lib.Seq.{sets}
 use lib.Dec.{leb}
 use Rattle.hbc_io.specs.Outcome.{refusal_at, cursor_at}
@@ -16,6 +17,7 @@ use Rattle.hbc_io_strings.specs.Strings.{prefixed}
 use Rattle.hbc_io_leb.specs.Numbers.{exact}
 use Rattle.hbc_rows.proofs.Untils.{until_most}
 use Rattle.hbc_debug_parts.specs.Along.{every}
+use Rattle.hbc_debug_parts.specs.declared.Marked.{Marked}
 use Rattle.hbc_debug_parts.proofs.Along.{every_both}
 use Rattle.hbc_debug_strings.specs.Strings.{strings_of, string_words, string_numbers}
 use Rattle.hbc_debug_scopes.specs.Scopes.{scopes_of, name_words, scope_numbers}
@@ -24,7 +26,6 @@ use Rattle.hbc_debug_callees.specs.Callees.{callees_of, callee_words, callee_num
 use Rattle.hbc_debug.specs.Debug.{Tables, tables, Contents, string_count, counts_of, numbers_read, all_exact, room_in, fits, with_rows}
 use Rattle.hbc_debug.specs.Private.{ReadParts}
 use Rattle.hbc_debug.specs.declared.Counts.{Counts}
-use Rattle.hbc_debug.specs.declared.Debugged.TheVariants as debugged
 
 pub strings_most : (s : List ℕ) → length (strings_of s) ≤ length s
 unfolding strings_of
@@ -80,7 +81,7 @@ module _ (b : Contents) (t : Tables) {n i j m : ℕ} {ok : Bool}
   pub read_done : {strings scopes names callees : List ℕ} {e : Bool} → ok ≡ true
       → strings ≡ sets t.strings 0 (string_words b.base (strings_of b.strings)) → RowsAre b.scopes n t.scopes t.names scopes names
       → callees ≡ sets t.callees 0 (callee_words (callees_of n b.callees)) → e ≡ all_exact b
-      → ReadParts b t (debugged.Read (record { strings = n; scopes = i; names = j; callees = m }) e) (tables strings scopes names callees)
+      → ReadParts b t (Ok (record { value = record { strings = n; scopes = i; names = j; callees = m }; exact = e })) (tables strings scopes names callees)
   read_done {strings} {scopes} {names} {callees} {e = x} e f₁ f f₄ d =
       let g₁ = f₁ in
       let g₂ = f.rows_are in
@@ -89,8 +90,8 @@ module _ (b : Contents) (t : Tables) {n i j m : ℕ} {ok : Bool}
       let g₄ : callees ≡ sets t.callees 0 (callee_words (callees_of (string_count b) b.callees))
       = f₄ ∙ ap (λ (x : ℕ). sets t.callees 0 (callee_words (callees_of x b.callees))) en in
       let g : tables strings scopes names callees ≡ with_rows b t = cc in
-      let made : Counts → Bool → Answer (Counts × Bool) = λ k a. gives (k, a) in
+      let made : Counts → Bool → Answer (Marked Counts) = λ k a. gives (record { value = k; exact = a }) in
       take _ _ _ (ok_is ∙ e) (given refl (ap (λ (k : Counts). made k x) counts_are ∙ ap (made (counts_of b)) d) g)
 
-  pub read_4 : {k : Refusal} → ok ≡ false → k ≡ refusal_at 4 0 → ReadParts b t (debugged.Refused k) t
+  pub read_4 : {k : Refusal} → ok ≡ false → k ≡ refusal_at 4 0 → ReadParts b t (Err k) t
   read_4 e f = leave _ _ _ (ok_is ∙ e) (refused refl (ap refuses f))

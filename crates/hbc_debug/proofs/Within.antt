@@ -7,16 +7,18 @@ use native.Mathlib.Omega.{arith}
 use borrow.Author.Tests.{ltb-false}
 use lib.Dec.{ltb}
 use lib.ListN.{length, take, drop, length-take, length-drop}
+use Rattle.std.specs.Prelude.{Result, Ok, Err}
 use Rattle.hbc_io.specs.Outcome.{limit}
 use Rattle.hbc_io.specs.Plain.{part_of, span_of, span_in}
 use Rattle.hbc_io.specs.Answer.{Answer, gives, refuses, refused_at, and_then}
+use Rattle.hbc_io.specs.Answers.{answered}
 use Rattle.hbc_io.specs.Lends.{below, choose, written}
 use Rattle.hbc_io.specs.declared.Refusal.{Refusal}
 use Rattle.hbc_io.specs.declared.Span.{Span}
 use Rattle.hbc_io.proofs.Exits.{refused, not_given, reached}
 use Rattle.hbc_debug_parts.specs.Places.{in_file, in_section}
 use Rattle.hbc_debug_parts.specs.Parts.{header_size, data_start, data_end, scopes_at, callees_at, strings_at, no_part, no_parts, part_at, parts_in, is_empty}
-use Rattle.hbc_debug_parts.specs.Parts.{header_at, parts_of, says_parts, FindParts, part_bytes}
+use Rattle.hbc_debug_parts.specs.Parts.{header_at, parts_of, FindParts, part_bytes}
 use Rattle.hbc_debug_parts.proofs.Cases.{inside_of}
 use Rattle.hbc_debug_parts.specs.declared.InFile.{InFile}
 use Rattle.hbc_debug_parts.specs.declared.InSection.{InSection}
@@ -24,12 +26,10 @@ use Rattle.hbc_debug_parts.specs.declared.InData.{InData}
 use Rattle.hbc_debug_parts.specs.declared.Header.{Header}
 use Rattle.hbc_debug_parts.specs.declared.Part.{Part}
 use Rattle.hbc_debug_parts.specs.declared.Parts.{Parts}
-use Rattle.hbc_debug_parts.specs.declared.PartsFound.{PartsFound}
-use Rattle.hbc_debug_parts.specs.declared.PartsFound.TheVariants as found
-use Rattle.hbc_debug.specs.Debug.{Tables, contents, contents_in, counts_answer, with_rows, parts_given, says_debug, ReadDebug}
+use Rattle.hbc_debug_parts.specs.declared.Marked.{Marked}
+use Rattle.hbc_debug.specs.Debug.{Tables, contents, contents_in, counts_answer, with_rows, parts_given, ReadDebug}
 use Rattle.hbc_debug.specs.Private.{ReadParts}
-use Rattle.hbc_debug.specs.declared.Debugged.{Debugged}
-use Rattle.hbc_debug.specs.declared.Debugged.TheVariants as debugged
+use Rattle.hbc_debug.specs.declared.Counts.{Counts}
 
 -- the strings end by m
 pub record Within (m : ℕ) (p : Parts) : Type 0 where
@@ -103,34 +103,34 @@ part_most file start len = go (span_in file (span_of start len))
 
 module _ (file : List ℕ) (offset : ℕ) where
   -- a file whose parts were found is short enough
-  pub part_fits : {f : PartsFound} {p : Parts} (q : Part) {s : List ℕ} → FindParts file offset f → f ≡ found.Found p → s ≡ part_bytes file q → length s ≤ limit
+  pub part_fits : {f : Result Parts Refusal} {p : Parts} (q : Part) {s : List ℕ} → FindParts file offset f → f ≡ Ok p → s ≡ part_bytes file q → length s ≤ limit
   unfolding parts_of
   part_fits q d e u =
       let t = ap length u in
       let h = part_most file q.start.0 q.len in
-      let l = (reached _ _ _ _ not_given (sym d ∙ ap says_parts e)).0 in
+      let l = (reached _ _ _ _ not_given (sym d ∙ ap answered e)).0 in
       omega arith
 
-  pub base_fits : {f : PartsFound} {p : Parts} {s : List ℕ} → FindParts file offset f → f ≡ found.Found p → s ≡ part_bytes file p.strings
+  pub base_fits : {f : Result Parts Refusal} {p : Parts} {s : List ℕ} → FindParts file offset f → f ≡ Ok p → s ≡ part_bytes file p.strings
       → p.strings.start.0 + length s ≤ limit
   base_fits {f} {p} d e u =
       let t = ap length u in
-      let h = part_short file p.strings.start.0 p.strings.len limit (found_within file offset p (sym d ∙ ap says_parts e)).strings in
+      let h = part_short file p.strings.start.0 p.strings.len limit (found_within file offset p (sym d ∙ ap answered e)).strings in
       omega arith
 
   module _ (before : Tables) where
-    pub section_refused : {f : PartsFound} {k : Refusal} → FindParts file offset f → f ≡ found.Refused k → ReadDebug file offset before (debugged.Refused k) before
+    pub section_refused : {f : Result Parts Refusal} {k : Refusal} → FindParts file offset f → f ≡ Err k → ReadDebug file offset before (Err k) before
     section_refused {f} {k} d e =
-        let o : parts_of file offset ≡ refuses k = sym d ∙ ap says_parts e in
+        let o : parts_of file offset ≡ refuses k = sym d ∙ ap answered e in
         refused refl (sym (ap (λ (a : Answer Parts). and_then a (λ p. counts_answer (contents_in file p) before)) o))
 
-    pub section_found : {f : PartsFound} {p : Parts} {strings scopes callees : List ℕ} {r : Debugged} {after : Tables} → FindParts file offset f → f ≡ found.Found p
+    pub section_found : {f : Result Parts Refusal} {p : Parts} {strings scopes callees : List ℕ} {r : Result (Marked Counts) Refusal} {after : Tables} → FindParts file offset f → f ≡ Ok p
         → strings ≡ part_bytes file p.strings → scopes ≡ part_bytes file p.scopes → callees ≡ part_bytes file p.callees
         → ReadParts (contents strings p.strings.start scopes callees) before r after → ReadDebug file offset before r after
     section_found {f} {p} {r = r} {after = after} d e u v w x =
-        let o : parts_of file offset ≡ gives p = sym d ∙ ap says_parts e in
+        let o : parts_of file offset ≡ gives p = sym d ∙ ap answered e in
         let y : ReadParts (contents_in file p) before r after = rw (u, v, w) at x in
         record {
           says = y.says ∙ sym (ap (λ (a : Answer Parts). and_then a (λ p. counts_answer (contents_in file p) before)) o);
-          leaves = y.leaves ∙ sym (ap (λ (a : Answer Parts). written (says_debug r) (with_rows (contents_in file (parts_given a)) before) before) o);
+          leaves = y.leaves ∙ sym (ap (λ (a : Answer Parts). written (answered r) (with_rows (contents_in file (parts_given a)) before) before) o);
         }

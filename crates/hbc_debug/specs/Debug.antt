@@ -1,20 +1,21 @@
 -- docs/FORMAT.md, section 7.6: the four tables of the debug section, and what each holds afterwards.
-use Rattle.std.specs.Prelude.{ℕ, List, ◌++◌, Bool, false, cond, length, leb}
+use Rattle.std.specs.Prelude.{ℕ, List, ◌++◌, Bool, false, cond, length, leb, Result}
 use Rattle.std.proofs.lemmas.List.Edits.{sets}
 use Rattle.hbc_io.specs.Answer.{Answer, gives, refuses, refused_at, and_then}
+use Rattle.hbc_io.specs.Answers.{answered}
+use Rattle.hbc_io.specs.declared.Refusal.{Refusal}
 use Rattle.hbc_io.specs.Lends.{choose, Lends}
 use Rattle.hbc_io_leb.specs.Numbers.{Number, exact}
 use Rattle.hbc_rows.specs.Rows.{rows}
 use Rattle.hbc_debug_parts.specs.Parts.{no_parts, parts_of, part_bytes}
 use Rattle.hbc_debug_parts.specs.Along.{every}
+use Rattle.hbc_debug_parts.specs.declared.Marked.{Marked}
 use Rattle.hbc_debug_parts.specs.declared.InFile.{InFile}
 use Rattle.hbc_debug_parts.specs.declared.Parts.{Parts}
 use Rattle.hbc_debug_strings.specs.Strings.{strings_of, string_width, string_words, string_numbers}
 use Rattle.hbc_debug_scopes.specs.Scopes.{scopes_of, scope_width, scope_words, name_words, names_in, scope_numbers}
 use Rattle.hbc_debug_callees.specs.Callees.{callees_of, callee_width, callee_words, callee_numbers}
 use Rattle.hbc_debug.specs.declared.Counts.{Counts}
-use Rattle.hbc_debug.specs.declared.Debugged.{Debugged}
-use Rattle.hbc_debug.specs.declared.Debugged.TheVariants as debugged
 
 -- the four lent tables
 pub record Tables : Type 0 where
@@ -86,11 +87,11 @@ with_rows b t =
     (sets t.callees 0 (callee_words (callees_of (string_count b) b.callees)))
 
 -- 4 if one of the tables is short: all are looked at together
-abbrev pub counts_answer : Contents → Tables → Answer (Counts × Bool)
-counts_answer b t = choose (fits (counts_of b) (room_in t)) (gives (counts_of b, all_exact b)) (refused_at 4 0)
+abbrev pub counts_answer : Contents → Tables → Answer (Marked Counts)
+counts_answer b t = choose (fits (counts_of b) (room_in t)) (gives (record { value = counts_of b; exact = all_exact b })) (refused_at 4 0)
 
 -- the section at an offset: 1 and 3 come first, with its parts
-abbrev pub debug_answer : List ℕ → ℕ → Tables → Answer (Counts × Bool)
+abbrev pub debug_answer : List ℕ → ℕ → Tables → Answer (Marked Counts)
 debug_answer file offset t = and_then (parts_of file offset) (λ p. counts_answer (contents_in file p) t)
 
 -- what its parts hold; empty ones where they are refused
@@ -101,11 +102,6 @@ parts_given (refuses r) = no_parts
 abbrev pub contents_at : List ℕ → ℕ → Contents
 contents_at file offset = contents_in file (parts_given (parts_of file offset))
 
--- what each case of an answer says: the four counts and the mark, or the refusal
-abbrev pub says_debug : Debugged → Answer (Counts × Bool)
-says_debug (debugged.Read k e) = gives (k, e)
-says_debug (debugged.Refused r) = refuses r
-
 -- the promise: the counts, the mark, and every word of the four tables
-abbrev pub ReadDebug : List ℕ → ℕ → Tables → Debugged → Tables → Type 0
-ReadDebug file offset before = Lends says_debug (debug_answer file offset before) (with_rows (contents_at file offset) before) before
+abbrev pub ReadDebug : List ℕ → ℕ → Tables → Result (Marked Counts) Refusal → Tables → Type 0
+ReadDebug file offset before = Lends answered (debug_answer file offset before) (with_rows (contents_at file offset) before) before

@@ -15,12 +15,12 @@ ghost use Rattle.hbc_debug_callees.specs.Callees.{callees_of, callee_width, call
 ghost use Rattle.hbc_debug.specs.Debug.{tables, contents, fits, ReadDebug};
 ghost use Rattle.hbc_debug.specs.Private.{ReadParts};
 
-use hbc_debug_callees::{CalleeCount, CalleesCounted, count_callees, write_callees};
-use hbc_debug_parts::{InFile, PartsFound, find_parts, part_bytes};
+use hbc_debug_callees::{CalleeCount, count_callees, write_callees};
+use hbc_debug_parts::{InFile, Marked, find_parts, part_bytes};
 use hbc_debug_rising::CALLEE_WORDS;
-use hbc_debug_scopes::{SCOPE_WORDS, ScopeCounts, ScopesCounted, count_scopes, write_scopes};
-use hbc_debug_strings::{STRING_WORDS, StringCount, StringsCounted, count_strings, write_strings};
-use hbc_io::{Refusal, refuse};
+use hbc_debug_scopes::{SCOPE_WORDS, ScopeCounts, count_scopes, write_scopes};
+use hbc_debug_strings::{STRING_WORDS, StringCount, count_strings, write_strings};
+use hbc_io::{Reason, Refusal, refuse};
 
 // How many rows each table has.
 #[derive(Clone, Copy)]
@@ -32,109 +32,108 @@ pub struct Counts {
 }
 
 // The counts, and whether every LEB128 number that was read was exact.
-#[derive(Clone, Copy)]
-pub enum Debugged {
-    Read(Counts, bool),
-    Refused(Refusal),
-}
+pub type Debugged = Result<Marked<Counts>, Refusal>;
 
 // Whether each table has room for its rows.
+#[tactic(auto, unfolding(crate::specs::Debug::fits))]
 fn fits(need: Counts, room: Counts) -> bool
     ensures { result ≡ fits need room }
 {
-    if need.strings <= room.strings {
-        if need.scopes <= room.scopes {
-            if need.names <= room.names {
-                return need.callees <= room.callees;
-            }
+    need.strings <= room.strings
+        && need.scopes <= room.scopes
+        && need.names <= room.names
+        && need.callees <= room.callees
+}
+
+// A part of a file that was found short enough, so that no call on it is refused.
+#[derive(Clone, Copy)]
+struct PartBytes<'a> {
+    bytes: &'a [u8],
+    ghost short: { length bytes.now ≤ limit },
+}
+
+impl PartBytes<'_> {
+    fn string_count(self) -> StringCount
+        ensures { (result.strings ≡ length (strings_of self.entry.bytes.now)) × (result.exact ≡ every exact (string_numbers self.entry.bytes.now)) }
+    {
+        match count_strings(self.bytes) {
+            Ok(k) => k,
+            Err(_) => StringCount {
+                strings: 0,
+                exact: true,
+            },
         }
     }
-    false
-}
 
-// The counts of the parts of a file that was found short enough, so that none is refused.
-fn string_count(part: &[u8]) -> StringCount
-    requires { length part.now ≤ limit }
-    ensures { (result.strings ≡ length (strings_of part.now)) × (result.exact ≡ every exact (string_numbers part.now)) }
-{
-    match count_strings(part) {
-        StringsCounted::Counts(k) => k,
-        StringsCounted::Refused(r) => StringCount {
-            strings: 0,
-            exact: true,
-        },
+    fn scope_counts(self) -> ScopeCounts
+        ensures { ScopesAre self.entry.bytes.now result.scopes result.names × (result.exact ≡ every exact (scope_numbers self.entry.bytes.now)) }
+    {
+        match count_scopes(self.bytes) {
+            Ok(k) => k,
+            Err(_) => ScopeCounts {
+                scopes: 0,
+                names: 0,
+                exact: true,
+            },
+        }
     }
-}
 
-fn scope_counts(part: &[u8]) -> ScopeCounts
-    requires { length part.now ≤ limit }
-    ensures { ScopesAre part.now result.scopes result.names × (result.exact ≡ every exact (scope_numbers part.now)) }
-{
-    match count_scopes(part) {
-        ScopesCounted::Counts(k) => k,
-        ScopesCounted::Refused(r) => ScopeCounts {
-            scopes: 0,
-            names: 0,
-            exact: true,
-        },
+    fn callee_count(self, strings: u32) -> CalleeCount
+        ensures { (result.callees ≡ length (callees_of strings self.entry.bytes.now))
+            × (result.exact ≡ every exact (callee_numbers strings self.entry.bytes.now)) }
+    {
+        match count_callees(self.bytes, strings) {
+            Ok(k) => k,
+            Err(_) => CalleeCount {
+                callees: 0,
+                exact: true,
+            },
+        }
     }
-}
 
-fn callee_count(part: &[u8], strings: u32) -> CalleeCount
-    requires { length part.now ≤ limit }
-    ensures { (result.callees ≡ length (callees_of strings part.now)) × (result.exact ≡ every exact (callee_numbers strings part.now)) }
-{
-    match count_callees(part, strings) {
-        CalleesCounted::Counts(k) => k,
-        CalleesCounted::Refused(r) => CalleeCount {
-            callees: 0,
-            exact: true,
-        },
+    // The rows of a part, for which there is room.
+    fn put_strings(self, base: InFile, count: usize, table: &mut [u32])
+        requires { (base.0 + length self.bytes.now ≤ limit) × (count ≡ length (strings_of self.bytes.now)) × (count ≤ rows string_width table.old) }
+        ensures { table.new ≡ sets table.old 0 (string_words base (strings_of self.entry.bytes.now)) }
+    {
+        let _ = write_strings(self.bytes, base, count, table);
     }
-}
 
-// The rows of the parts, for which there is room, so that none is refused.
-fn put_strings(part: &[u8], base: InFile, count: usize, table: &mut [u32])
-    requires { (base.0 + length part.now ≤ limit) × (count ≡ length (strings_of part.now)) × (count ≤ rows string_width table.old) }
-    ensures { table.new ≡ sets table.old 0 (string_words base (strings_of part.now)) }
-{
-    write_strings(part, base, count, table);
-}
+    fn put_scopes(self, strings: u32, counts: ScopeCounts, table: &mut [u32], names: &mut [u32])
+        requires counts_value { ScopesAre self.bytes.now counts.scopes counts.names }
+        requires scopes_bound { (counts.scopes ≤ rows scope_width table.old) × (counts.names ≤ length names.old) }
+        ensures { RowsAre self.entry.bytes.now strings table.old names.old table.new names.new }
+    {
+        let _ = write_scopes(self.bytes, strings, counts, table, names);
+    }
 
-fn put_scopes(part: &[u8], strings: u32, counts: ScopeCounts, table: &mut [u32], names: &mut [u32])
-    requires part_len_bound { (length part.now ≤ limit) × ScopesAre part.now counts.scopes counts.names }
-    requires scopes_bound { (counts.scopes ≤ rows scope_width table.old) × (counts.names ≤ length names.old) }
-    ensures { RowsAre part.now strings table.old names.old table.new names.new }
-{
-    write_scopes(part, strings, counts, table, names);
-}
-
-fn put_callees(part: &[u8], strings: u32, count: usize, table: &mut [u32])
-    requires { (length part.now ≤ limit) × (count ≡ length (callees_of strings part.now)) × (count ≤ rows callee_width table.old) }
-    ensures { table.new ≡ sets table.old 0 (callee_words (callees_of strings part.now)) }
-{
-    write_callees(part, strings, count, table);
+    fn put_callees(self, strings: u32, count: usize, table: &mut [u32])
+        requires { (count ≡ length (callees_of strings self.bytes.now)) × (count ≤ rows callee_width table.old) }
+        ensures { table.new ≡ sets table.old 0 (callee_words (callees_of strings self.entry.bytes.now)) }
+    {
+        let _ = write_callees(self.bytes, strings, count, table);
+    }
 }
 
 fn read_parts(
-    string_part: &[u8],
+    string_part: PartBytes,
     base: InFile,
-    scope_part: &[u8],
-    callee_part: &[u8],
+    scope_part: PartBytes,
+    callee_part: PartBytes,
     strings: &mut [u32],
     scopes: &mut [u32],
     names: &mut [u32],
     callees: &mut [u32],
 ) -> Debugged
-    requires { (base.0 + length string_part.now ≤ limit) × (length scope_part.now ≤ limit) × (length callee_part.now ≤ limit) }
-    ensures { ReadParts (contents string_part.now base scope_part.now callee_part.now)
+    requires { base.0 + length string_part.bytes.now ≤ limit }
+    ensures { ReadParts (contents string_part.entry.bytes.now base scope_part.entry.bytes.now callee_part.entry.bytes.now)
         (tables strings.old scopes.old names.old callees.old)
         result (tables strings.new scopes.new names.new callees.new) }
 {
-    let counted = string_count(string_part);
+    let counted = string_part.string_count();
     let n = counted.strings;
-    let found = scope_counts(scope_part);
-    let k = callee_count(callee_part, n as u32);
+    let found = scope_part.scope_counts();
+    let k = callee_part.callee_count(n as u32);
     let need = Counts {
         strings: n,
         scopes: found.scopes,
@@ -148,12 +147,15 @@ fn read_parts(
         callees: callees.len() / CALLEE_WORDS,
     };
     if fits(need, room) {
-        put_strings(string_part, base, n, strings);
-        put_scopes(scope_part, n as u32, found, scopes, names);
-        put_callees(callee_part, n as u32, k.callees, callees);
-        return Debugged::Read(need, found.exact & (k.exact & counted.exact));
+        string_part.put_strings(base, n, strings);
+        scope_part.put_scopes(n as u32, found, scopes, names);
+        callee_part.put_callees(n as u32, k.callees, callees);
+        return Ok(Marked {
+            value: need,
+            exact: found.exact & (k.exact & counted.exact),
+        });
     }
-    Debugged::Refused(refuse(4, 0))
+    Err(refuse(Reason::TooFewRows as u32, 0))
 }
 
 // Reads the debug section at `offset`: strings (2 words a row), scopes (5), names (1) and callees (2).
@@ -169,24 +171,22 @@ pub fn read_debug(
         (tables strings.old scopes.old names.old callees.old)
         result (tables strings.new scopes.new names.new callees.new) }
 {
-    match find_parts(file, offset) {
-        PartsFound::Refused(r) => Debugged::Refused(r),
-        PartsFound::Found(p) => {
-            let place = p.strings;
-            let base = place.start;
-            let string_part = part_bytes(file, place);
-            let scope_part = part_bytes(file, p.scopes);
-            let callee_part = part_bytes(file, p.callees);
-            read_parts(
-                string_part,
-                base,
-                scope_part,
-                callee_part,
-                strings,
-                scopes,
-                names,
-                callees,
-            )
-        }
-    }
+    let parts = find_parts(file, offset)?;
+    let string_bytes = part_bytes(file, parts.strings);
+    let scope_bytes = part_bytes(file, parts.scopes);
+    let callee_bytes = part_bytes(file, parts.callees);
+    read_parts(
+        PartBytes {
+            bytes: string_bytes,
+        },
+        parts.strings.start,
+        PartBytes { bytes: scope_bytes },
+        PartBytes {
+            bytes: callee_bytes,
+        },
+        strings,
+        scopes,
+        names,
+        callees,
+    )
 }

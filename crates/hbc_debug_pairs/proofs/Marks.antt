@@ -13,14 +13,9 @@ use Rattle.hbc_io_leb.specs.declared.Held.{Held}
 use Rattle.hbc_debug_parts.specs.Along.{every}
 use Rattle.hbc_debug_parts.proofs.Along.{and_true}
 use Rattle.hbc_debug_parts.proofs.Marks.{mark_on, mark_off, mark_last}
-use Rattle.hbc_debug_pairs.specs.Pairs.{counter_at, counter_read, pair_numbers, mark_of}
+use Rattle.hbc_debug_pairs.specs.Pairs.{counter_at, counter_read, pair_numbers}
 use Rattle.hbc_debug_pairs.specs.declared.Counter.{Counter}
-use Rattle.hbc_debug_pairs.specs.declared.CounterRead.{CounterRead}
-use Rattle.hbc_debug_pairs.specs.declared.ReadPair.{ReadPair}
-
--- an answer whose mark is o, found to be b
-pub mark_found : {a b : ReadPair} {o : Bool} → mark_of a ≡ o → a ≡ b → mark_of b ≡ o
-mark_found e f = sym (ap mark_of f) ∙ e
+use Rattle.hbc_debug_parts.specs.declared.Marked.{Marked}
 
 -- a pair
 module _ (s : List ℕ) (c : Cursor) where
@@ -40,23 +35,23 @@ module _ (s : List ℕ) (c : Cursor) where
 -- the count, with the counter that it gives
 module _ (s : List ℕ) where
   mark_with : {k : Counter} {x : Bool} → k ≡ counter_at s → every exact (and_next signed (leb_bytes s (cursor_at 0)) no_more) ≡ x
-      → record { counter = k; exact = x } ≡ counter_read s
+      → record { value = k; exact = x } ≡ counter_read s
   unfolding counter_read
-  mark_with {k} {x} e f = ap (λ (j : Counter). record { counter = j; exact = x }) e ∙ ap (λ (b : Bool). record { counter = counter_at s; exact = b }) (sym f)
+  mark_with {k} {x} e f = ap (λ (j : Counter). record { value = j; exact = x }) e ∙ ap (λ (b : Bool). record { value = counter_at s; exact = b }) (sym f)
 
   pub count_off : {k : Counter} (r : Refusal) (m : Cursor) → valued held_of (sleb_at s (cursor_at 0)) ≡ refused r m → k ≡ counter_at s
-      → record { counter = k; exact = true } ≡ counter_read s
+      → record { value = k; exact = true } ≡ counter_read s
   count_off r m e f = mark_with f (mark_off s (cursor_at 0) no_more r m e)
 
   pub count_on : {k : Counter} (b : Held) (m : Cursor) → valued held_of (sleb_at s (cursor_at 0)) ≡ got b m → k ≡ counter_at s
-      → record { counter = k; exact = b.exact } ≡ counter_read s
+      → record { value = k; exact = b.exact } ≡ counter_read s
   count_on b m e f = mark_with f (mark_last s (cursor_at 0) b m e)
 
   -- what was read, by its parts
-  pub counter_is : {r : CounterRead} → r ≡ counter_read s → r.counter ≡ counter_at s
+  pub counter_is : {r : Marked Counter} → r ≡ counter_read s → r.value ≡ counter_at s
   unfolding counter_read
-  counter_is e = ap (λ (r : CounterRead). r.counter) e
+  counter_is e = ap (λ (r : Marked Counter). r.value) e
 
-  pub counter_mark : {r : CounterRead} → r ≡ counter_read s → r.exact ≡ every exact (and_next signed (leb_bytes s (cursor_at 0)) no_more)
+  pub counter_mark : {r : Marked Counter} → r ≡ counter_read s → r.exact ≡ every exact (and_next signed (leb_bytes s (cursor_at 0)) no_more)
   unfolding counter_read
-  counter_mark e = ap (λ (r : CounterRead). r.exact) e
+  counter_mark e = ap (λ (r : Marked Counter). r.exact) e

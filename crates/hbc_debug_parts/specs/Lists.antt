@@ -2,15 +2,8 @@
 use Rattle.std.specs.Prelude.{ℕ, List, ◌++◌, take, drop}
 use Rattle.std.proofs.lemmas.List.Edits.{sets}
 use Rattle.hbc_io.specs.Outcome.{limit}
-use Rattle.hbc_io.specs.Answer.{Answer, gives, refuses, refused_at}
+use Rattle.hbc_io.specs.Answer.{Answer, refused_at}
 use Rattle.hbc_io.specs.Lends.{below}
-use Rattle.hbc_debug_parts.specs.declared.Written.{Written}
-use Rattle.hbc_debug_parts.specs.declared.Written.TheVariants as wrote
-
--- each case of the answer of a call that writes rows
-abbrev pub says_written : Written → Answer (Unit {0})
-says_written wrote.Rows = gives tt
-says_written (wrote.Refused r) = refuses r
 
 -- 1: a part that ends behind the 2^30 bytes of a file; else what follows
 abbrev pub in_limit : {A : Type 0} → ℕ → Answer A → Answer A

@@ -1,9 +1,11 @@
 -- docs/FORMAT.md, section 7.2: the debug section at an offset, its header and its three parts.
-use Rattle.std.specs.Prelude.{◌≡◌, ℕ, ◌+◌, ◌-◌, ◌*◌, List, Bool, true, cond, length, ltb, leb, eqb}
+use Rattle.std.specs.Prelude.{◌≡◌, ℕ, ◌+◌, ◌-◌, ◌*◌, List, Bool, true, cond, length, ltb, leb, eqb, Result}
 use Rattle.std.specs.Borrow.{Bor}
 use Rattle.hbc_io.specs.Outcome.{limit}
 use Rattle.hbc_io.specs.Plain.{word_at, part_of, span_of, IsPart}
-use Rattle.hbc_io.specs.Answer.{Answer, gives, refuses, refused_at}
+use Rattle.hbc_io.specs.Answer.{Answer, gives, refused_at}
+use Rattle.hbc_io.specs.Answers.{answered}
+use Rattle.hbc_io.specs.declared.Refusal.{Refusal}
 use Rattle.hbc_io.specs.Lends.{below, choose}
 use Rattle.hbc_debug_parts.specs.Places.{in_file, in_section}
 use Rattle.hbc_debug_parts.specs.declared.InFile.{InFile}
@@ -12,8 +14,6 @@ use Rattle.hbc_debug_parts.specs.declared.InData.{InData}
 use Rattle.hbc_debug_parts.specs.declared.Header.{Header}
 use Rattle.hbc_debug_parts.specs.declared.Part.{Part}
 use Rattle.hbc_debug_parts.specs.declared.Parts.{Parts}
-use Rattle.hbc_debug_parts.specs.declared.PartsFound.{PartsFound}
-use Rattle.hbc_debug_parts.specs.declared.PartsFound.TheVariants as found
 
 -- the header is seven u32
 abbrev pub header_size : ℕ
@@ -92,14 +92,9 @@ parts_of file offset =
     (below (length file - offset) header_size (refused_at 3 0)
     (gives (parts_in (length file - offset) (record { 0 = offset }) (header_at file (record { 0 = offset }))))))
 
--- what each case of an answer says: the three parts, or the refusal
-abbrev pub says_parts : PartsFound → Answer Parts
-says_parts (found.Found p) = gives p
-says_parts (found.Refused r) = refuses r
-
 -- the promise: the three parts of the section at an offset
-abbrev pub FindParts : List ℕ → ℕ → PartsFound → Type 0
-FindParts file offset r = says_parts r ≡ parts_of file offset
+abbrev pub FindParts : List ℕ → ℕ → Result Parts Refusal → Type 0
+FindParts file offset r = answered r ≡ parts_of file offset
 
 -- the bytes of a part
 abbrev pub part_bytes : List ℕ → Part → List ℕ

@@ -6,7 +6,7 @@ ghost use Rattle.hbc_io.specs.Outcome.{limit};
 ghost use Rattle.hbc_debug_parts.specs.Places.{in_file, in_section};
 ghost use Rattle.hbc_debug_parts.specs.Parts.{header_word, header_at, data_start, no_part, no_parts, part_at, parts_in, is_empty, FindParts, PartBytes};
 
-use hbc_io::{LIMIT, Refusal, Span, part, refuse, u32_at};
+use hbc_io::{LIMIT, Reason, Refusal, Span, part, refuse, u32_at};
 
 // The header's bytes.
 pub const HEADER_SIZE: usize = 28;
@@ -40,17 +40,11 @@ pub struct Parts {
     pub strings: Part,
 }
 
+// What was read, and whether every number that was read for it is exact: where the reading failed, those before it.
 #[derive(Clone, Copy)]
-pub enum PartsFound {
-    Found(Parts),
-    Refused(Refusal),
-}
-
-// The answer of a call that writes the rows of a list.
-#[derive(Clone, Copy)]
-pub enum Written {
-    Rows,
-    Refused(Refusal),
+pub struct Marked<T> {
+    pub value: T,
+    pub exact: bool,
 }
 
 // The seven words of the header.
@@ -80,6 +74,7 @@ fn data_to_section(blob: InSection, at: InData) -> InSection
 }
 
 // A word of the header, by its number.
+#[tactic(auto, unfolding(crate::specs::Parts::header_word))]
 fn word_at(file: &[u8], section: InFile, k: usize) -> u32
     requires { section.0 + 4 * k < 2 ^ 64 }
     ensures { result ≡ header_word file.now section k }
@@ -89,6 +84,7 @@ fn word_at(file: &[u8], section: InFile, k: usize) -> u32
     u32_at(file, place.0)
 }
 
+#[tactic(auto, unfolding(crate::specs::Parts::header_at))]
 fn read_header(file: &[u8], section: InFile) -> Header
     requires { section.0 ≤ limit }
     ensures { result ≡ header_at file.now section }
@@ -137,24 +133,22 @@ fn no_parts() -> Parts
 }
 
 // The part of the debug data between two places, where `end` is the data's end.
+#[tactic(auto, unfolding(crate::specs::Parts::part_at))]
 fn part_at(section: InFile, blob: InSection, end: InData, from: InData, to: InData) -> Part
     requires { section.0 + (blob.0 + end.0) < 2 ^ 64 }
     ensures { result ≡ part_at section blob end from to }
 {
-    if to.0 < from.0 {
+    if to.0 < from.0 || end.0 < to.0 {
         return no_part();
     }
-    if end.0 < to.0 {
-        return no_part();
-    }
-    let start = section_to_file(section, data_to_section(blob, from));
     Part {
-        start: start,
+        start: section_to_file(section, data_to_section(blob, from)),
         len: to.0 - from.0,
     }
 }
 
 // The three parts, where the file has `left` bytes from the section's first on.
+#[tactic(auto, unfolding(crate::specs::Parts::parts_in))]
 fn parts_in(left: usize, section: InFile, h: Header) -> Parts
     requires { section.0 + left ≤ limit }
     ensures { result ≡ parts_in left section h }
@@ -176,46 +170,39 @@ fn parts_in(left: usize, section: InFile, h: Header) -> Parts
 }
 
 // Whether an offset stands for no debug section.
+#[tactic(auto, unfolding(crate::specs::Parts::is_empty))]
 fn is_empty(len: usize, offset: u32) -> bool
     ensures { result ≡ is_empty len offset }
 {
-    if offset == 0 {
-        return true;
-    }
-    if offset == NO_SECTION {
-        return true;
-    }
-    len <= (offset as usize)
+    offset == 0 || offset == NO_SECTION || len <= offset as usize
 }
 
 // The three parts of the debug section at `offset`.
-pub fn find_parts(file: &[u8], offset: u32) -> PartsFound
+#[tactic(auto, unfolding(crate::specs::Parts::parts_of, hbc_io::specs::Lends::below, hbc_io::specs::Lends::choose, crate::specs::Parts::is_empty))]
+pub fn find_parts(file: &[u8], offset: u32) -> Result<Parts, Refusal>
     ensures { FindParts file.now offset result }
 {
     if LIMIT < file.len() {
-        return PartsFound::Refused(refuse(1, 0));
+        return Err(refuse(Reason::TooLong as u32, 0));
     }
     let at = offset as usize;
     if is_empty(file.len(), offset) {
-        return PartsFound::Found(no_parts());
+        return Ok(no_parts());
     }
     if file.len() - at < HEADER_SIZE {
-        return PartsFound::Refused(refuse(3, 0));
+        return Err(refuse(Reason::Cut as u32, 0));
     }
     let section = InFile(at);
-    PartsFound::Found(parts_in(file.len() - at, section, read_header(file, section)))
+    Ok(parts_in(file.len() - at, section, read_header(file, section)))
 }
 
 // The bytes of a part.
 pub fn part_bytes(file: &[u8], p: Part) -> &[u8]
     ensures { PartBytes file.entry p result }
 {
-    let start = p.start;
-    part(
-        file,
-        Span {
-            start: start.0,
-            len: p.len,
-        },
-    )
+    let span = Span {
+        start: p.start.0,
+        len: p.len,
+    };
+    part(file, span)
 }

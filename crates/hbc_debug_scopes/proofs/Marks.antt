@@ -1,7 +1,7 @@
 -- Whether the numbers that were read are exact, from the marks of the reads.
-use mathlib.Core.Path.{◌≡◌, refl, sym, ap, ◌∙◌}
+use mathlib.Core.Path.{◌≡◌, sym, ap, ◌∙◌}
 use mathlib.Core.Bool.{Bool, true, ◌&&◌}
-use mathlib.Core.List.{List, ◌∷◌}
+use mathlib.Core.List.{List}
 use Prim.Native.Nat.{ℕ, ◌-◌, ◌<◌}
 use Rattle.hbc_io.specs.Outcome.{Outcome, got, refused, valued}
 use Rattle.hbc_io.specs.declared.Cursor.{Cursor}

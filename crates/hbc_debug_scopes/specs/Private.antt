@@ -1,13 +1,10 @@
 -- What only private contracts cite: no promise rests on it.
 -- docs/FORMAT.md, section 7.4: the front of a scope as row words; what the two passes find and leave.
-use Rattle.std.specs.Prelude.{ℕ, ◌≡◌, List, Bool, cond, length, ltb}
+use Rattle.std.specs.Prelude.{ℕ, ◌≡◌, List, cond, length, ltb}
 use Rattle.std.proofs.lemmas.List.Edits.{sets}
-use Rattle.hbc_io.specs.Outcome.{Outcome, got, refused}
 use Rattle.hbc_io_leb.specs.Signed.{low32}
 use Rattle.hbc_debug_scopes.specs.Scopes.{Front, parent_word, absent, scopes_of, names_in, scope_words, name_words}
 use Rattle.hbc_debug_scopes.specs.declared.Head.{Head}
-use Rattle.hbc_debug_scopes.specs.declared.ReadHead.{ReadHead}
-use Rattle.hbc_debug_scopes.specs.declared.ReadHead.TheVariants as head
 
 -- the number, if it is below m, of its 64 bits
 unfoldable pub word_bits : ℕ → ℕ → ℕ
@@ -16,15 +13,6 @@ word_bits m b = cond (ltb b m) b absent
 -- a front as its row has it
 abbrev pub head_of : Front → Head
 head_of h = record { parent = parent_word h.parent; flags = low32 h.flags; count = h.count }
-
-abbrev pub says_head : ReadHead → Outcome Head
-says_head (head.Got v n e) = got v n
-says_head (head.Refused f n e) = refused f.refusal n
-
--- whether the numbers of a front are exact, as far as they were read
-abbrev pub mark_of : ReadHead → Bool
-mark_of (head.Got v n e) = e
-mark_of (head.Refused f n e) = e
 
 -- how many rows each of the two tables takes
 pub record ScopesAre (s : List ℕ) (scopes names : ℕ) : Type 0 where

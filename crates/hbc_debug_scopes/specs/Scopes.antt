@@ -1,18 +1,17 @@
 -- docs/FORMAT.md, section 7.4: the scopes of a part, their names, and their rows.
-use Rattle.std.specs.Prelude.{ℕ, ◌*◌, ◌-◌, List, [], ◌∷◌, ◌++◌, cond, length, ℤ}
+use Rattle.std.specs.Prelude.{ℕ, ◌*◌, ◌-◌, List, [], ◌∷◌, ◌++◌, cond, length, ℤ, Result}
 use Rattle.hbc_io.specs.Outcome.{Outcome, got, refused, and_then, cursor_at, refusal}
 use Rattle.hbc_io.specs.declared.Cursor.{Cursor}
 use Rattle.hbc_io_leb.specs.declared.Sleb.{Sleb}
-use Rattle.hbc_io.specs.Answer.{Answer, gives, refuses}
+use Rattle.hbc_io.specs.Answer.{Answer, gives}
+use Rattle.hbc_io.specs.Answers.{answered}
+use Rattle.hbc_io.specs.declared.Refusal.{Refusal}
 use Rattle.hbc_io.specs.Lends.{Lends}
 use Rattle.hbc_rows.specs.Rows.{rows}
 use Rattle.hbc_rows.specs.Until.{until, after, flat, flat_from, sum}
-use Rattle.hbc_debug_parts.specs.declared.Written.{Written}
-use Rattle.hbc_debug_parts.specs.Lists.{says_written, in_limit, with_room, in_front}
+use Rattle.hbc_debug_parts.specs.Lists.{in_limit, with_room, in_front}
 use Rattle.hbc_debug_parts.specs.Along.{along, onward, every}
 use Rattle.hbc_debug_scopes.specs.declared.ScopeCounts.{ScopeCounts}
-use Rattle.hbc_debug_scopes.specs.declared.ScopesCounted.{ScopesCounted}
-use Rattle.hbc_debug_scopes.specs.declared.ScopesCounted.TheVariants as counted
 use Rattle.hbc_io_leb.specs.Leb.{leb_bytes}
 use Rattle.hbc_io_leb.specs.Numbers.{Number, signed, exact, and_next, no_more}
 use Rattle.hbc_io_leb.specs.Signed.{sleb_at, up_to, under, natural, low32}
@@ -129,10 +128,6 @@ scope_numbers s = along (scope_at s) (numbers_at s) (length s) (cursor_at 0)
 
 -- ---- the calls
 
-abbrev pub says_scopes_counted : ScopesCounted → Answer ScopeCounts
-says_scopes_counted (counted.Counts n) = gives n
-says_scopes_counted (counted.Refused r) = refuses r
-
 -- how many rows each of the two tables takes, and whether every number that was read is exact; 1 for a part of more than 2^30 bytes
 unfoldable pub count_scopes : List ℕ → Answer ScopeCounts
 count_scopes s = in_limit (length s) (gives (record { scopes = length (scopes_of s); names = names_in (scopes_of s); exact = every exact (scope_numbers s) }))
@@ -143,7 +138,7 @@ scopes_answer s counts before =
     in_limit (length s) (with_room (rows scope_width before.0) counts.scopes (with_room (length before.1) counts.names (gives tt)))
 
 -- the rows of the first scopes and the words of the first names, as many as are counted, of all where there are fewer
-abbrev pub WriteScopes : List ℕ → ℕ → ScopeCounts → List ℕ × List ℕ → Written → List ℕ × List ℕ → Type 0
+abbrev pub WriteScopes : List ℕ → ℕ → ScopeCounts → List ℕ × List ℕ → Result (Unit {0}) Refusal → List ℕ × List ℕ → Type 0
 WriteScopes s strings counts before =
-    Lends says_written (scopes_answer s counts before)
+    Lends answered (scopes_answer s counts before)
     (in_front (counts.scopes * scope_width) (scope_words (scopes_of s)) before.0, in_front counts.names (name_words strings (scopes_of s)) before.1) before

@@ -1,19 +1,20 @@
 // The scopes of the debug section.
 #![tactic(auto)]
 
-ghost use Rattle.std.specs.Prelude.{◌≡◌, ◌+◌, ◌^◌, ◌<◌};
+ghost use Rattle.std.specs.Prelude.{◌≡◌, true, ◌+◌, ◌^◌, ◌<◌};
 ghost use Rattle.std.proofs.lemmas.List.Edits.{sets};
+ghost use Rattle.hbc_io.specs.Answers.{says, answered};
 ghost use Rattle.hbc_io.specs.Outcome.{valued};
 ghost use Rattle.hbc_io_leb.specs.Numbers.{exact as isExact};
 ghost use Rattle.hbc_io_leb.specs.Signed.{sleb_at};
 ghost use Rattle.hbc_rows.specs.Until.{until, flat, Ended};
 ghost use Rattle.hbc_debug_parts.specs.Along.{along, every};
-ghost use Rattle.hbc_debug_scopes.specs.Scopes.{front_at, name_cell, front_numbers, name_number, scope_numbers, says_scopes_counted, count_scopes, WriteScopes};
-ghost use Rattle.hbc_debug_scopes.specs.Private.{head_of, says_head, mark_of, word_bits, ScopesAre, RowsAre};
+ghost use Rattle.hbc_debug_scopes.specs.Scopes.{front_at, name_cell, front_numbers, name_number, scope_numbers, count_scopes, WriteScopes};
+ghost use Rattle.hbc_debug_scopes.specs.Private.{head_of, word_bits, ScopesAre, RowsAre};
 
-use hbc_debug_parts::Written;
-use hbc_io::{Cursor, Failed, LIMIT, Refusal, refuse};
-use hbc_io_leb::{ReadHeld, read_sleb128_bits};
+use hbc_debug_parts::Marked;
+use hbc_io::{Cursor, LIMIT, Read, Reason, Refusal, refuse, stop};
+use hbc_io_leb::read_sleb128_bits;
 use hbc_rows::put_words;
 
 // The words of a scope's row, and which they are.
@@ -40,26 +41,11 @@ pub struct Head {
     pub count: usize,
 }
 
-// With each, whether the numbers that were read are exact.
-#[derive(Clone, Copy)]
-pub enum ReadHead {
-    Got(Head, Cursor, bool),
-    Refused(Failed, Cursor, bool),
-}
-
 // How many names there were, and where reading goes on.
 #[derive(Clone, Copy)]
 pub struct Names {
     pub count: usize,
     pub next: Cursor,
-}
-
-// The same, and whether they are exact.
-#[derive(Clone, Copy)]
-pub struct NamesMarked {
-    pub count: usize,
-    pub next: Cursor,
-    pub exact: bool,
 }
 
 // How many scopes there are, how many names in all, and whether every number that was read is exact.
@@ -70,14 +56,8 @@ pub struct ScopeCounts {
     pub exact: bool,
 }
 
-// The answer of the counting pass.
-#[derive(Clone, Copy)]
-pub enum ScopesCounted {
-    Counts(ScopeCounts),
-    Refused(Refusal),
-}
-
 // A number below `most`, or the word for none.
+#[tactic(auto, unfolding(crate::specs::Private::word_bits))]
 fn word_below(bits: u64, most: u32) -> u32
     ensures { result ≡ word_bits most bits }
 {
@@ -88,75 +68,62 @@ fn word_below(bits: u64, most: u32) -> u32
     }
 }
 
-fn read_head(s: &[u8], c: Cursor) -> ReadHead
-    ensures result_value { says_head result ≡ valued head_of (front_at s.now c) }
-    ensures result_value_2 { mark_of result ≡ every isExact (front_numbers s.now c) }
+// What stands before the names of the scope at a cursor, and in `exact` whether its numbers are.
+fn front(s: &[u8], c: Cursor, exact: &mut bool) -> Read<Head>
+    requires { exact.old ≡ true }
+    ensures is { says result ≡ valued head_of (front_at s.now c) }
+    ensures mark { exact.new ≡ every isExact (front_numbers s.now c) }
 {
-    match read_sleb128_bits(s, c) {
-        ReadHeld::Refused(r, left) => ReadHead::Refused(Failed { refusal: r }, left, true),
-        ReadHeld::Got(parent, c1) => match read_sleb128_bits(s, c1) {
-            ReadHeld::Refused(r, left) => ReadHead::Refused(
-                Failed { refusal: r },
-                left,
-                parent.exact,
-            ),
-            ReadHeld::Got(flags, c2) => match read_sleb128_bits(s, c2) {
-                ReadHeld::Refused(r, left) => ReadHead::Refused(
-                    Failed { refusal: r },
-                    left,
-                    parent.exact & flags.exact,
-                ),
-                ReadHeld::Got(count, c3) => {
-                    let exact = parent.exact & flags.exact & count.exact;
-                    if count.bits <= ((s.len() - c3.at) as u64) {
-                        let head = Head {
-                            parent: word_below(parent.bits, NONE),
-                            flags: (flags.bits % 0x1_0000_0000) as u32,
-                            count: count.bits as usize,
-                        };
-                        return ReadHead::Got(head, c3, exact);
-                    }
-                    let failed = Failed {
-                        refusal: refuse(3, 0),
-                    };
-                    ReadHead::Refused(failed, c3, exact)
-                }
-            },
-        },
+    let (parent, c1) = read_sleb128_bits(s, c)?;
+    *exact &= parent.exact;
+    let (flags, c2) = read_sleb128_bits(s, c1)?;
+    *exact &= flags.exact;
+    let (count, c3) = read_sleb128_bits(s, c2)?;
+    *exact &= count.exact;
+    if ((s.len() - c3.at) as u64) < count.bits {
+        return Err(stop(Reason::Cut, c3));
     }
+    let head = Head {
+        parent: word_below(parent.bits, NONE),
+        flags: (flags.bits % 0x1_0000_0000) as u32,
+        count: count.bits as usize,
+    };
+    Ok((head, c3))
+}
+
+fn read_head(s: &[u8], c: Cursor) -> Marked<Read<Head>>
+    ensures is { says result.value ≡ valued head_of (front_at s.now c) }
+    ensures mark { result.exact ≡ every isExact (front_numbers s.now c) }
+{
+    let mut exact = true;
+    let value = front(s, c, &mut exact);
+    Marked { value, exact }
 }
 
 // Passes over at most `count` names.
-fn count_names(s: &[u8], c: Cursor, count: usize) -> NamesMarked
-    ensures ended { Ended (sleb_at s.now) count c result.count result.next }
+fn count_names(s: &[u8], c: Cursor, count: usize) -> Marked<Names>
+    ensures ended { Ended (sleb_at s.now) count c result.value.count result.value.next }
     ensures exact_value { result.exact ≡ every isExact (along (sleb_at s.now) (name_number s.now) count c) }
 {
     let mut here = c;
-    let mut left = count;
-    let mut n: usize = 0;
     let mut exact = true;
-    while 0 < left {
+    for n in 0..count {
         match read_sleb128_bits(s, here) {
-            ReadHeld::Refused(r, end) => {
-                return NamesMarked {
-                    count: n,
-                    next: end,
-                    exact: exact,
-                };
-            }
-            ReadHeld::Got(name, next) => {
+            Ok((name, next)) => {
+                exact &= name.exact;
                 here = next;
-                n += 1;
-                exact = exact & name.exact;
-                left -= 1;
+            }
+            Err(end) => {
+                let read = Names {
+                    count: n,
+                    next: end.cursor,
+                };
+                return Marked { value: read, exact };
             }
         }
     }
-    NamesMarked {
-        count: n,
-        next: here,
-        exact: exact,
-    }
+    let read = Names { count, next: here };
+    Marked { value: read, exact }
 }
 
 // Writes at most `count` names from `at` on.
@@ -173,31 +140,21 @@ fn write_names(
     ensures names_after { names.new ≡ sets names.old at (flat (name_cell strings) (until (sleb_at s.now) count c)) }
 {
     let mut here = c;
-    let mut left = count;
-    let mut n: usize = 0;
-    let mut to = at;
-    while 0 < left {
+    for n in 0..count {
         match read_sleb128_bits(s, here) {
-            ReadHeld::Refused(r, end) => {
+            Ok((name, next)) => {
+                put_words(names, at + n, &[word_below(name.bits, strings)]);
+                here = next;
+            }
+            Err(end) => {
                 return Names {
                     count: n,
-                    next: end,
+                    next: end.cursor,
                 };
-            }
-            ReadHeld::Got(name, next) => {
-                let row = [word_below(name.bits, strings)];
-                put_words(names, to, &row);
-                here = next;
-                n += 1;
-                to += 1;
-                left -= 1;
             }
         }
     }
-    Names {
-        count: n,
-        next: here,
-    }
+    Names { count, next: here }
 }
 
 fn count(s: &[u8]) -> ScopeCounts
@@ -205,34 +162,26 @@ fn count(s: &[u8]) -> ScopeCounts
     ensures exact_value { result.exact ≡ every isExact (scope_numbers s.now) }
 {
     let mut here = Cursor { at: 0 };
-    let mut left = s.len();
-    let mut n: usize = 0;
-    let mut first: usize = 0;
+    let mut names: usize = 0;
     let mut exact = true;
-    while 0 < left {
-        match read_head(s, here) {
-            ReadHead::Refused(r, _, front) => {
-                return ScopeCounts {
-                    scopes: n,
-                    names: first,
-                    exact: exact & front,
-                };
-            }
-            ReadHead::Got(h, c1, front) => {
-                let k = count_names(s, c1, h.count);
-                let next = k.next;
-                here = next;
-                n += 1;
-                first += k.count;
-                exact = exact & front & k.exact;
-                left -= 1;
-            }
-        }
+    for n in 0..s.len() {
+        let front = read_head(s, here);
+        let Ok((head, c)) = front.value else {
+            return ScopeCounts {
+                scopes: n,
+                names,
+                exact: exact & front.exact,
+            };
+        };
+        let read = count_names(s, c, head.count);
+        names += read.value.count;
+        exact = exact & front.exact & read.exact;
+        here = read.value.next;
     }
     ScopeCounts {
-        scopes: n,
-        names: first,
-        exact: exact,
+        scopes: s.len(),
+        names,
+        exact,
     }
 }
 
@@ -240,65 +189,56 @@ fn write_rows(s: &[u8], strings: u32, rows: &mut [u32], names: &mut [u32])
     ensures { RowsAre s.now strings rows.old names.old rows.new names.new }
 {
     let mut here = Cursor { at: 0 };
-    let mut left = s.len();
-    let mut at: usize = 0;
     let mut first: usize = 0;
-    while 0 < left {
-        match read_head(s, here) {
-            ReadHead::Refused(r, _, _) => {
-                return;
-            }
-            ReadHead::Got(h, c1, _) => {
-                let k = write_names(s, c1, h.count, strings, names, first);
-                let row = [
-                    here.at as u32,
-                    h.parent,
-                    h.flags,
-                    first as u32,
-                    k.count as u32,
-                ];
-                put_words(rows, at, &row);
-                let next = k.next;
-                here = next;
-                at += SCOPE_WORDS;
-                first += k.count;
-                left -= 1;
-            }
-        }
+    for n in 0..s.len() {
+        let Ok((head, c)) = read_head(s, here).value else {
+            return;
+        };
+        let read = write_names(s, c, head.count, strings, names, first);
+        let row = [
+            here.at as u32,
+            head.parent,
+            head.flags,
+            first as u32,
+            read.count as u32,
+        ];
+        put_words(rows, SCOPE_WORDS * n, &row);
+        first += read.count;
+        here = read.next;
     }
 }
 
 // How many scopes a part has, how many names in all, and whether every number that was read is exact.
-pub fn count_scopes(s: &[u8]) -> ScopesCounted
-    ensures { says_scopes_counted result ≡ count_scopes s.now }
+#[tactic(auto, unfolding(crate::specs::Scopes::count_scopes, hbc_io::specs::Lends::below), using(crate::proofs::Calls::counts_are))]
+pub fn count_scopes(s: &[u8]) -> Result<ScopeCounts, Refusal>
+    ensures { answered result ≡ count_scopes s.now }
 {
     if LIMIT < s.len() {
-        return ScopesCounted::Refused(refuse(1, 0));
+        Err(refuse(Reason::TooLong as u32, 0))
+    } else {
+        Ok(count(s))
     }
-    ScopesCounted::Counts(count(s))
 }
 
 // Writes a row for each of the first scopes, as many as are counted, and their names, each below `strings` or none. The counts' mark is not looked at.
+#[tactic(auto, unfolding(hbc_io::specs::Lends::below), using(crate::proofs::Calls::fronts_put))]
 pub fn write_scopes(
     s: &[u8],
     strings: u32,
     counts: ScopeCounts,
     rows: &mut [u32],
     names: &mut [u32],
-) -> Written
+) -> Result<(), Refusal>
     ensures { WriteScopes s.now strings counts (rows.old, names.old) result (rows.new, names.new) }
 {
     if LIMIT < s.len() {
-        return Written::Refused(refuse(1, 0));
+        return Err(refuse(Reason::TooLong as u32, 0));
     }
-    if rows.len() / SCOPE_WORDS < counts.scopes {
-        return Written::Refused(refuse(4, 0));
-    }
-    if names.len() < counts.names {
-        return Written::Refused(refuse(4, 0));
+    if rows.len() / SCOPE_WORDS < counts.scopes || names.len() < counts.names {
+        return Err(refuse(Reason::TooFewRows as u32, 0));
     }
     let words = counts.scopes * SCOPE_WORDS;
     let count = counts.names;
     write_rows(s, strings, &mut rows[0..words], &mut names[0..count]);
-    Written::Rows
+    Ok(())
 }

@@ -1,15 +1,15 @@
 -- The mark of a string's length is whether the number that was read of it is exact.
-use mathlib.Core.Path.{◌≡◌, refl, ap, ◌∙◌}
-use mathlib.Core.Bool.{Bool, true}
+use mathlib.Core.Path.{◌≡◌, ap, ◌∙◌}
+use mathlib.Core.Bool.{true}
 use mathlib.Core.List.{List}
 use Prim.Native.Nat.{ℕ}
-use Rattle.hbc_io.specs.Outcome.{Outcome, got, refused, valued}
+use Rattle.hbc_io.specs.Outcome.{got, refused, valued}
 use Rattle.hbc_io.specs.declared.Cursor.{Cursor}
 use Rattle.hbc_io.specs.declared.Refusal.{Refusal}
 use Rattle.hbc_io.proofs.Reading.{valued_got, valued_refused}
 use Rattle.hbc_io_leb.specs.Leb.{leb_bytes, exact_unsigned}
 use Rattle.hbc_io_leb.specs.Answers.{uleb_of}
-use Rattle.hbc_io_leb.specs.Numbers.{exact, unsigned, and_next, no_more}
+use Rattle.hbc_io_leb.specs.Numbers.{exact}
 use Rattle.hbc_io_leb.specs.declared.Uleb.{Uleb}
 use Rattle.hbc_io_strings.specs.Strings.{marked_at}
 use Rattle.hbc_io_strings.specs.declared.Prefixed.{Prefixed}

@@ -4,15 +4,16 @@
 ghost use Rattle.std.specs.Prelude.{◌≡◌, ◌+◌, ◌≤◌, length};
 ghost use Rattle.std.proofs.lemmas.List.Edits.{sets};
 ghost use Rattle.hbc_io.specs.Outcome.{limit};
+ghost use Rattle.hbc_io.specs.Answers.{answered};
 ghost use Rattle.hbc_io_leb.specs.Numbers.{exact};
 ghost use Rattle.hbc_debug_parts.specs.Along.{every};
-ghost use Rattle.hbc_debug_strings.specs.Strings.{strings_of, part_to_file, string_words, says_strings_counted, count_strings, WriteStrings};
+ghost use Rattle.hbc_debug_strings.specs.Strings.{strings_of, part_to_file, string_words, count_strings, WriteStrings};
 ghost use Rattle.hbc_debug_strings.specs.Strings.{prefix_number, string_numbers};
 
-use hbc_debug_parts::{InFile, Written};
-use hbc_io::{Cursor, LIMIT, Refusal, refuse};
-use hbc_io_leb::{ReadUleb, read_uleb128};
-use hbc_io_strings::{ReadPrefixed, read_length_prefixed_string};
+use hbc_debug_parts::InFile;
+use hbc_io::{Cursor, LIMIT, Reason, Refusal, refuse};
+use hbc_io_leb::read_uleb128;
+use hbc_io_strings::read_length_prefixed_string;
 use hbc_rows::put_words;
 
 // The words of a string's row: start in the file, byte length.
@@ -25,20 +26,14 @@ pub struct StringCount {
     pub exact: bool,
 }
 
-// The answer of the counting pass.
-#[derive(Clone, Copy)]
-pub enum StringsCounted {
-    Counts(StringCount),
-    Refused(Refusal),
-}
-
 // Whether the length of a string that failed is exact, if it was read: once for a part, so that the loop stays short.
+#[tactic(auto, using(crate::proofs::Marks::length_mark, crate::proofs::Marks::no_length))]
 fn length_exact(s: &[u8], c: Cursor) -> bool
     ensures { result ≡ every exact (prefix_number s.now c) }
 {
     match read_uleb128(s, c) {
-        ReadUleb::Got(n, _) => n.exact,
-        ReadUleb::Refused(r, _) => true,
+        Ok((n, _)) => n.exact,
+        Err(_) => true,
     }
 }
 
@@ -47,27 +42,19 @@ fn count(part: &[u8]) -> StringCount
     ensures exact_value { result.exact ≡ every exact (string_numbers part.now) }
 {
     let mut here = Cursor { at: 0 };
-    let mut left = part.len();
-    let mut n: usize = 0;
     let mut kept = true;
-    while 0 < left {
-        match read_length_prefixed_string(part, here) {
-            ReadPrefixed::Refused(r, _) => {
-                return StringCount {
-                    strings: n,
-                    exact: kept & length_exact(part, here),
-                };
-            }
-            ReadPrefixed::Got(p, next) => {
-                kept = kept & p.exact;
-                here = next;
-                n += 1;
-                left -= 1;
-            }
-        }
+    for n in 0..part.len() {
+        let Ok((string, next)) = read_length_prefixed_string(part, here) else {
+            return StringCount {
+                strings: n,
+                exact: kept & length_exact(part, here),
+            };
+        };
+        kept &= string.exact;
+        here = next;
     }
     StringCount {
-        strings: n,
+        strings: part.len(),
         exact: kept,
     }
 }
@@ -85,48 +72,45 @@ fn write_rows(part: &[u8], base: InFile, rows: &mut [u32])
     ensures { rows.new ≡ sets rows.old 0 (string_words base (strings_of part.now)) }
 {
     let mut here = Cursor { at: 0 };
-    let mut left = part.len();
-    let mut at: usize = 0;
-    while 0 < left {
-        match read_length_prefixed_string(part, here) {
-            ReadPrefixed::Refused(r, _) => {
-                return;
-            }
-            ReadPrefixed::Got(p, next) => {
-                let start = part_to_file(base, p.span.start);
-                let row = [start.0 as u32, p.span.len as u32];
-                put_words(rows, at, &row);
-                here = next;
-                at += STRING_WORDS;
-                left -= 1;
-            }
-        }
+    for n in 0..part.len() {
+        let Ok((string, next)) = read_length_prefixed_string(part, here) else {
+            return;
+        };
+        let start = part_to_file(base, string.span.start);
+        let row = [start.0 as u32, string.span.len as u32];
+        put_words(rows, STRING_WORDS * n, &row);
+        here = next;
     }
 }
 
 // How many strings a part has, and whether every number that was read was exact.
-pub fn count_strings(part: &[u8]) -> StringsCounted
-    ensures { says_strings_counted result ≡ count_strings part.now }
+#[tactic(auto, unfolding(crate::specs::Strings::count_strings, hbc_io::specs::Lends::below))]
+pub fn count_strings(part: &[u8]) -> Result<StringCount, Refusal>
+    ensures { answered result ≡ count_strings part.now }
 {
     if LIMIT < part.len() {
-        return StringsCounted::Refused(refuse(1, 0));
+        Err(refuse(Reason::TooLong as u32, 0))
+    } else {
+        Ok(count(part))
     }
-    StringsCounted::Counts(count(part))
 }
 
 // Writes a row for each of the first `count` strings, where `base` is the part's place in the file.
-pub fn write_strings(part: &[u8], base: InFile, count: usize, rows: &mut [u32]) -> Written
+#[tactic(auto, unfolding(hbc_io::specs::Lends::below), using(hbc_debug_parts::proofs::Fronts::front_put))]
+pub fn write_strings(
+    part: &[u8],
+    base: InFile,
+    count: usize,
+    rows: &mut [u32],
+) -> Result<(), Refusal>
     ensures { WriteStrings part.now base count rows.old result rows.new }
 {
-    if LIMIT < part.len() {
-        return Written::Refused(refuse(1, 0));
-    }
-    if LIMIT - part.len() < base.0 {
-        return Written::Refused(refuse(1, 0));
+    if LIMIT < part.len() || LIMIT - part.len() < base.0 {
+        return Err(refuse(Reason::TooLong as u32, 0));
     }
     if rows.len() / STRING_WORDS < count {
-        return Written::Refused(refuse(4, 0));
+        return Err(refuse(Reason::TooFewRows as u32, 0));
     }
     write_rows(part, base, &mut rows[0..count * STRING_WORDS]);
-    Written::Rows
+    Ok(())
 }

@@ -13,6 +13,7 @@ use lib.Dec.{ltb, lit<}
 use borrow.Rule.Slice.PartMut.{put_mid}
 use borrow.Author.Tests.{le-ltb}
 use Rattle.hbc_io.specs.Outcome.{limit}
+use Rattle.std.specs.Prelude.{Result}
 use Rattle.hbc_io.specs.declared.Refusal.{Refusal}
 use Rattle.hbc_io.specs.Answer.{Answer, gives, refuses, asked}
 use Rattle.hbc_io.specs.Lends.{below}
@@ -24,8 +25,7 @@ use Rattle.hbc_function_record.specs.declared.Found.{Found}
 use Rattle.hbc_function_record.specs.Record.{size_of}
 use Rattle.hbc_function_record.specs.Row.{width, row_words}
 use Rattle.hbc_function_record.proofs.Rows.{words_length}
-use Rattle.hbc_function_header.specs.declared.Reading.{Reading}
-use Rattle.hbc_function_header.specs.Header.{says_reading, function_at, row_of, FunctionRow}
+use Rattle.hbc_function_header.specs.Header.{function_at, row_of, FunctionRow}
 use Rattle.hbc_function_header.proofs.Headers.{row_is}
 use Rattle.hbc_function.specs.Private.{Put}
 use Rattle.hbc_function.specs.Table.{counted, step, scan, row_by, row_if, put_rows, all, read_answer}
@@ -70,6 +70,9 @@ module _ (chosen : ℕ → Bool) (f : ℕ → Answer Found) where
   pub scan_done : (i n k : ℕ) → i ≡ n → scan chosen f i ≡ gives k → gives k ≡ scan chosen f n
   scan_done i n k h e = rw (← h) (sym e)
 
+-- what a check of all functions cites
+pub ruleset scanning = (step_read, step_refused, scan_more, scan_stops, scan_done)
+
 -- ---- one row more
 
 pub short_by : (a : Answer Found) → length (row_by a) ≤ width
@@ -108,7 +111,7 @@ part_length i t h =
     let k : i * width + width - i * width ≤ length (drop (i * width) t) = rw length-drop (omega arith) in
     length-take-le (i * width + width - i * width) (drop (i * width) t) k ∙ omega arith
 
-pub row_put : (s : List ℕ) (layout : Layout) (start id i : ℕ) (t : List ℕ) {r : Reading} {row : List ℕ} → length s ≤ limit → start ≤ length s
+pub row_put : (s : List ℕ) (layout : Layout) (start id i : ℕ) (t : List ℕ) {r : Result (Unit {0}) Refusal} {row : List ℕ} → length s ≤ limit → start ≤ length s
     → i * width + width ≤ length t → FunctionRow s layout start id (take (i * width + width - i * width) (drop (i * width) t)) r row
     → put_mid (i * width) (i * width + width - i * width) t row ≡ rows.put_row width t i (row_by (function_at s layout start id))
 row_put s layout start id i t h k l e =
@@ -175,8 +178,3 @@ pub scanned : (s : List ℕ) (layout : Layout) (start count words : ℕ) → len
     → asked (scan all (function_at s layout start) count) ≡ read_answer s layout start count words
 unfolding read_answer below
 scanned s layout start count words h k l = sym (simp (le-ltb _ _ h, le-ltb _ _ k, le-ltb _ _ l))
-
--- ---- from an answer that says a and the case it was found in
-
-pub found_by : {a b : Reading} {o : Answer (Unit {0})} → says_reading a ≡ o → a ≡ b → says_reading b ≡ o
-found_by e f = sym (ap says_reading f) ∙ e

@@ -50,6 +50,9 @@ module _ {chosen : ℕ → Bool} (f : ℕ → Answer Found) {from count r : ℕ}
   pub put_same : (t : List ℕ) → put_rows chosen f t r ≡ put_rows chosen f t from
   put_same t = same (put_rows chosen f t) (put_skip chosen f t) v.skipped
 
+-- what the search for the next cites
+pub ruleset nexts = (skip_none, skip_more, next_met, next_none)
+
 -- ---- rows from one on
 
 module _ (f : ℕ → Answer Found) (t : List ℕ) (i : ℕ) where

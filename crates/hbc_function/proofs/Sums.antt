@@ -12,7 +12,9 @@ use Rattle.hbc_io.specs.declared.Refusal.{Refusal}
 use Rattle.hbc_io.specs.Outcome.{limit}
 use Rattle.hbc_io.specs.Answer.{Answer, gives, refuses, asked, and_then}
 use Rattle.hbc_io.specs.Plain.{word_at}
+use Rattle.hbc_io.specs.Answers.{answered}
 use Rattle.hbc_io.specs.Lends.{Lends}
+use Rattle.std.specs.Prelude.{Result, Ok, Err}
 use Rattle.hbc_io.proofs.Exits.{given, refused, not_given}
 use Rattle.hbc_rows.specs.Rows.{row_at, put_row}
 use Rattle.hbc_rows.proofs.RowsAt.{row_here, row_apart, ends}
@@ -24,18 +26,13 @@ use Rattle.hbc_function_record.proofs.Rows.{words_length}
 use Rattle.hbc_function_header.specs.Header.{header_at, function_at, row_of}
 use Rattle.hbc_function_totals.specs.declared.Share.{Share}
 use Rattle.hbc_function_totals.specs.declared.Totals.{Totals}
-use Rattle.hbc_function_totals.specs.declared.Kept.{Kept}
-use Rattle.hbc_function_totals.specs.Totals.{share_of, share, totals, sum, sums, exchanged, kept, says_kept}
+use Rattle.hbc_function_totals.specs.Totals.{share_of, share, totals, sum, sums, exchanged, kept}
 use Rattle.hbc_function_totals.proofs.Sums.{sum_more, sum_skip, sum_same, sum_alike}
 use Rattle.hbc_function_totals.proofs.Kepts.{kept_more, kept_skip, kept_stays, kept_safe}
 use Rattle.hbc_function_header.specs.Meets.{meets}
-use Rattle.hbc_function.specs.declared.Checked.{Checked}
-use Rattle.hbc_function.specs.declared.Checked.TheVariants as checked
-use Rattle.hbc_function.specs.declared.Refreshed.{Refreshed}
-use Rattle.hbc_function.specs.declared.Refreshed.TheVariants as refreshed
 use Rattle.hbc_function.specs.Table.{scan, all, row_by, share_by, put_rows, Table, lent, totals_of, summed}
-use Rattle.hbc_function.specs.Refresh.{says_refreshed, held, put_met, kept_met, if_kept, left_by, refreshed_by}
-use Rattle.hbc_function.specs.Private.{Next, shares, Summed, Ran, Solid, SolidTo, says_checked, with_old, Roomy, Safe, Settled}
+use Rattle.hbc_function.specs.Refresh.{held, put_met, kept_met, if_kept, left_by, refreshed_by}
+use Rattle.hbc_function.specs.Private.{Next, shares, Summed, Ran, Solid, with_old, Roomy, Safe, Settled}
 use Rattle.hbc_function.proofs.Laws.{short_by, row_at_lem, put_long, put_skip, put_more, step_read, step_refused, scan_more, scan_stops}
 use Rattle.hbc_function.proofs.Passes.{last_or, same, scan_next, rest_same, put_alike, put_from, put_whole, Patched, patch_in, patch_rest}
 
@@ -233,10 +230,6 @@ module _ {chosen : ℕ → Bool} {old new : ℕ → Share} {before : Totals} {co
     pub keep_done : count ≤ i → gives now ≡ kept chosen old new before count
     keep_done h = let l = w.within in let q : i ≡ count = omega arith in sym w.kept_now ∙ ap (kept chosen old new before) q
 
--- what one exchange says, by the case that it was found in
-pub kept_by : {a b : Kept} {o : Answer Totals} → says_kept a ≡ o → a ≡ b → says_kept b ≡ o
-kept_by e f = sym (ap says_kept f) ∙ e
-
 -- over shares that are those of the rows
 pub exchanged_by : (i : ℕ) (now : Totals) {x y u v : Share} {o : Answer Totals} → o ≡ exchanged i now x y → x ≡ u → y ≡ v → o ≡ exchanged i now u v
 exchanged_by i now {y = y} {u = u} e p q = e ∙ ap (λ (z : Share). exchanged i now z y) p ∙ ap (exchanged i now u) q
@@ -354,39 +347,31 @@ old_in : Totals → Answer (ℕ × Totals) → Totals
 old_in t (gives p) = p.1
 old_in t (refuses x) = t
 
-pub checked_met : (a : Answer ℕ) (t : Totals) {old : Totals} {n : ℕ} → with_old a t ≡ gives (n, old) → (a ≡ gives n) × (old ≡ t)
+pub checked_met : (a : Answer ℕ) (t : Totals) {old : Totals} {n : ℕ} → gives (n, old) ≡ with_old a t → (a ≡ gives n) × (old ≡ t)
 unfolding number_in old_in
-checked_met (gives m) t e = (ap (λ (x : Answer (ℕ × Totals)). gives (number_in x)) e, sym (ap (old_in t) e))
-checked_met (refuses x) t e = absurd (not_given e)
+checked_met (gives m) t e = (sym (ap (λ (x : Answer (ℕ × Totals)). gives (number_in x)) e), ap (old_in t) e)
+checked_met (refuses x) t e = absurd (not_given (sym e))
 
-pub checked_refused : (a : Answer ℕ) (t : Totals) {x : Refusal} → with_old a t ≡ refuses x → a ≡ refuses x
-checked_refused (gives m) t e = absurd (not_given (sym e))
+pub checked_refused : (a : Answer ℕ) (t : Totals) {x : Refusal} → refuses x ≡ with_old a t → a ≡ refuses x
+checked_refused (gives m) t e = absurd (not_given e)
 checked_refused (refuses y) t {x} e = let p : y ≡ x = cc in ap refuses p
-
-pub checked_by : {a b : Checked} {o : Answer (ℕ × Totals)} → says_checked a ≡ o → a ≡ b → o ≡ says_checked b
-checked_by e f = sym e ∙ ap says_checked f
-
--- by the case that it was found in
-pub solid_of : {chosen : ℕ → Bool} {f : ℕ → Answer Found} {first count : ℕ} {a : Checked} {n end : ℕ} {old : Totals} → SolidTo chosen f first count a
-    → a ≡ checked.Met n end old → Solid chosen f first count end
-solid_of {chosen} {f} {first} {count} v e = subst (SolidTo chosen f first count) e v
 
 module _ (s : List ℕ) (layout : Layout) (start count low high n : ℕ) (before : Table) where
   settle_by : {t' : List ℕ} {now : Totals} → t' ≡ put_met s layout start low high before.rows count → kept_met s layout start low high before count ≡ gives now
-      → Settled s layout start count low high n before (refreshed.Done n) (lent t' now.large now.sizes)
+      → Settled s layout start count low high n before (Ok n) (lent t' now.large now.sizes)
   settle_by {t'} {now} e k = given refl (sym (ap (if_kept n) k))
       (ap (λ (u : List ℕ). lent u now.large now.sizes) e
       ∙ ap (λ (t : Totals). lent (put_met s layout start low high before.rows count) t.large t.sizes) (sym (ap (λ (a : Answer Totals). left_by a before.totals) k)))
 
   pub settle_kept : {t' : List ℕ} {now : Totals} → t' ≡ put_met s layout start low high before.rows count → gives now ≡ kept_met s layout start low high before count
-      → Settled s layout start count low high n before (refreshed.Done n) (lent t' now.large now.sizes)
+      → Settled s layout start count low high n before (Ok n) (lent t' now.large now.sizes)
   settle_kept e k = settle_by e (sym k)
 
   pub settle_safe : {t' : List ℕ} {old new : Totals} → t' ≡ put_met s layout start low high before.rows count
       → old ≡ sums (meets s layout start low high) (shares before.rows) count
       → new ≡ sums (meets s layout start low high) (λ i. share_by (function_at s layout start i)) count
       → Roomy before.totals.large before.totals.sizes old → new.large ≤ limit * 4294967295 → new.sizes ≤ limit * 4294967295
-      → Settled s layout start count low high n before (refreshed.Done n)
+      → Settled s layout start count low high n before (Ok n)
       (lent t' (before.totals.large - old.large + new.large) (before.totals.sizes - old.sizes + new.sizes))
   settle_safe {t'} {old} {new} e p q v h k =
       let ol = ap (λ (t : Totals). t.large) p in let os = ap (λ (t : Totals). t.sizes) p in
@@ -398,13 +383,13 @@ module _ (s : List ℕ) (layout : Layout) (start count low high n : ℕ) (before
       (before.totals.sizes - t.sizes + (sums (meets s layout start low high) (λ i. share_by (function_at s layout start i)) count).sizes)) (sym p)
       ∙ ap (λ (t : Totals). totals (before.totals.large - old.large + t.large) (before.totals.sizes - old.sizes + t.sizes)) (sym q)))
 
-  pub settle_refused : {x : Refusal} → refuses x ≡ kept_met s layout start low high before count → Settled s layout start count low high n before (refreshed.Refused x) before
+  pub settle_refused : {x : Refusal} → refuses x ≡ kept_met s layout start low high before count → Settled s layout start count low high n before (Err x) before
   settle_refused e = refused refl (ap (if_kept n) e)
 
   -- past every read: what is settled is the answer
-  pub settled : {r : Refreshed} {after : Table} → scan (meets s layout start low high) (function_at s layout start) count ≡ gives n
+  pub settled : {r : Result ℕ Refusal} {after : Table} → scan (meets s layout start low high) (function_at s layout start) count ≡ gives n
       → Settled s layout start count low high n before r after
-      → Lends says_refreshed
+      → Lends answered
       (and_then (scan (meets s layout start low high) (function_at s layout start) count) (λ m. if_kept m (kept_met s layout start low high before count)))
       (refreshed_by s layout start count low high before) before r after
   settled e v = record {
@@ -413,9 +398,9 @@ module _ (s : List ℕ) (layout : Layout) (start count low high n : ℕ) (before
   }
 
   pub stopped : {x : Refusal} → scan (meets s layout start low high) (function_at s layout start) count ≡ refuses x
-      → Lends says_refreshed
+      → Lends answered
       (and_then (scan (meets s layout start low high) (function_at s layout start) count) (λ m. if_kept m (kept_met s layout start low high before count)))
-      (refreshed_by s layout start count low high before) before (refreshed.Refused x) before
+      (refreshed_by s layout start count low high before) before (Err x) before
   stopped e = refused refl (sym (ap (λ (a : Answer ℕ). and_then a (λ m. if_kept m (kept_met s layout start low high before count))) e))
 
 -- no more headers fit than the file has bytes

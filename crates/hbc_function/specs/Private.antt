@@ -1,5 +1,5 @@
 -- What only private contracts cite: no promise rests on it.
-use Rattle.std.specs.Prelude.{ℕ, ◌+◌, ◌-◌, ◌*◌, ◌^◌, ◌≤◌, ◌<◌, ◌≡◌, Bool, true, false, List, leb}
+use Rattle.std.specs.Prelude.{ℕ, ◌+◌, ◌-◌, ◌*◌, ◌^◌, ◌≤◌, ◌<◌, ◌≡◌, Bool, true, false, List, Result, Ok, Err, leb}
 use Rattle.hbc_io.specs.Answer.{Answer, gives, refuses, asked}
 use Rattle.hbc_io.specs.Plain.{word_at}
 use Rattle.hbc_function_record.specs.declared.Layout.{Layout}
@@ -12,12 +12,12 @@ use Rattle.hbc_function_record.specs.declared.Found.{Found}
 use Rattle.hbc_function_totals.specs.declared.Share.{Share}
 use Rattle.hbc_function_totals.specs.declared.Totals.{Totals}
 use Rattle.hbc_function_totals.specs.Totals.{share_of, sum}
+use Rattle.hbc_io.specs.Answers.{answered}
 use Rattle.hbc_io.specs.Lends.{Lends}
-use Rattle.hbc_function.specs.declared.Refreshed.{Refreshed}
+use Rattle.hbc_io.specs.declared.Refusal.{Refusal}
 use Rattle.hbc_function.specs.Table.{scan, put_rows, Table}
-use Rattle.hbc_function.specs.Refresh.{says_refreshed, kept_met, if_kept, refreshed_by}
-use Rattle.hbc_function.specs.declared.Checked.{Checked}
-use Rattle.hbc_function.specs.declared.Checked.TheVariants as checked
+use Rattle.hbc_function.specs.Refresh.{kept_met, if_kept, refreshed_by}
+use Rattle.hbc_function.specs.declared.Met.{Met}
 
 -- functions `from` to i - 1 are not chosen
 pub record Skipped (chosen : ℕ → Bool) (from count i : ℕ) : Type 0 where
@@ -69,9 +69,9 @@ pub record Ran (f : ℕ → Answer Found) (from to : ℕ) (t : List ℕ) (next l
   pub sums : (b m l s : ℕ) → b ≤ from → Summed (leb b) (shares t) from m l s → Summed (leb b) (shares t') next (m + (next - from)) (l + large) (s + sizes)
 
 -- what the first pass of a refresh answers: how many functions are read again, and the totals of their old rows
-abbrev pub says_checked : Checked → Answer (ℕ × Totals)
-says_checked (checked.Met n end old) = gives (n, old)
-says_checked (checked.Refused r) = refuses r
+abbrev pub says_met : Result Met Refusal → Answer (ℕ × Totals)
+says_met (Ok m) = gives (m.count, m.old)
+says_met (Err r) = refuses r
 
 -- functions `first` to end - 1 are chosen, and can be read; none before them is
 pub record Solid (chosen : ℕ → Bool) (f : ℕ → Answer Found) (first count end : ℕ) : Type 0 where
@@ -82,9 +82,9 @@ pub record Solid (chosen : ℕ → Bool) (f : ℕ → Answer Found) (first count
   pub read : (k : ℕ) → first ≤ k → k < end → gives tt ≡ asked (f k)
   pub counts : scan chosen f end ≡ gives (end - first)
 
-abbrev pub SolidTo : (ℕ → Bool) → (ℕ → Answer Found) → ℕ → ℕ → Checked → Type 0
-SolidTo chosen f first count (checked.Met n end old) = Solid chosen f first count end
-SolidTo chosen f first count (checked.Refused r) = Unit {0}
+abbrev pub SolidTo : (ℕ → Bool) → (ℕ → Answer Found) → ℕ → ℕ → Result Met Refusal → Type 0
+SolidTo chosen f first count (Ok m) = Solid chosen f first count m.end
+SolidTo chosen f first count (Err r) = Unit {0}
 
 abbrev pub with_old : Answer ℕ → Totals → Answer (ℕ × Totals)
 with_old (gives n) old = gives (n, old)
@@ -101,6 +101,6 @@ abbrev pub Safe : ℕ → ℕ → Totals → Bool → Type 0
 Safe large sizes old r = r ≡ true → Roomy large sizes old
 
 -- what a refresh does whose n functions can all be read: rows and totals, if these can be kept
-abbrev pub Settled : List ℕ → Layout → ℕ → ℕ → ℕ → ℕ → ℕ → Table → Refreshed → Table → Type 0
+abbrev pub Settled : List ℕ → Layout → ℕ → ℕ → ℕ → ℕ → ℕ → Table → Result ℕ Refusal → Table → Type 0
 Settled s layout start count low high n before =
-    Lends says_refreshed (if_kept n (kept_met s layout start low high before count)) (refreshed_by s layout start count low high before) before
+    Lends answered (if_kept n (kept_met s layout start low high before count)) (refreshed_by s layout start count low high before) before

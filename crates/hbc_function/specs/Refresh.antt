@@ -1,7 +1,9 @@
 -- docs/FORMAT.md, section 3.8: what a refresh answers, and what the lent words are afterwards.
-use Rattle.std.specs.Prelude.{ℕ, ◌-◌, ◌/◌, List, length}
+use Rattle.std.specs.Prelude.{ℕ, ◌-◌, ◌/◌, List, Result, length}
 use Rattle.hbc_io.specs.Answer.{Answer, gives, refuses, refused_at, and_then}
+use Rattle.hbc_io.specs.Answers.{answered}
 use Rattle.hbc_io.specs.Lends.{below, Lends}
+use Rattle.hbc_io.specs.declared.Refusal.{Refusal}
 use Rattle.hbc_rows.specs.Rows.{row_at}
 use Rattle.hbc_function_record.specs.declared.Layout.{Layout}
 use Rattle.hbc_function_record.specs.Record.{size_of}
@@ -11,13 +13,6 @@ use Rattle.hbc_function_header.specs.Meets.{meets, spanned}
 use Rattle.hbc_function_totals.specs.declared.Totals.{Totals}
 use Rattle.hbc_function_totals.specs.Totals.{share_of, kept}
 use Rattle.hbc_function.specs.Table.{scan, put_rows, roomed, share_by, Table}
-use Rattle.hbc_function.specs.declared.Refreshed.{Refreshed}
-use Rattle.hbc_function.specs.declared.Refreshed.TheVariants as refreshed
-
--- each case of the answer: how many functions were read again, or the refusal
-abbrev pub says_refreshed : Refreshed → Answer ℕ
-says_refreshed (refreshed.Done n) = gives n
-says_refreshed (refreshed.Refused r) = refuses r
 
 -- how many inline headers fit, which is the number of the first that does not
 unfoldable pub held : List ℕ → Layout → ℕ → ℕ
@@ -59,7 +54,7 @@ refreshed_by s layout start count low high before = record {
   totals = left_by (kept_met s layout start low high before count) before.totals;
 }
 
--- what a refresh promises: the answer, and what the lent table and totals have become
-abbrev pub RefreshFunctions : List ℕ → Layout → ℕ → ℕ → ℕ → ℕ → Table → Refreshed → Table → Type 0
+-- what a refresh promises: how many functions were read again, or the refusal, and what the lent table and totals have become
+abbrev pub RefreshFunctions : List ℕ → Layout → ℕ → ℕ → ℕ → ℕ → Table → Result ℕ Refusal → Table → Type 0
 RefreshFunctions s layout start count low high before =
-    Lends says_refreshed (refresh_answer s layout start count low high before) (refreshed_by s layout start count low high before) before
+    Lends answered (refresh_answer s layout start count low high before) (refreshed_by s layout start count low high before) before

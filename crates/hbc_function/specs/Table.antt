@@ -1,13 +1,14 @@
 -- docs/FORMAT.md, section 3.6: what reading a table of functions answers, and what the lent words are afterwards.
-use Rattle.std.specs.Prelude.{ℕ, zero, suc, ◌+◌, ◌*◌, List, [], Bool, true, false, cond, length}
+use Rattle.std.specs.Prelude.{ℕ, zero, suc, ◌+◌, ◌*◌, List, [], Bool, true, false, Result, cond, length}
 use Rattle.hbc_io.specs.Answer.{Answer, gives, refuses, refused_at, asked, and_then}
+use Rattle.hbc_io.specs.Answers.{answered}
 use Rattle.hbc_io.specs.Lends.{below, Lends}
+use Rattle.hbc_io.specs.declared.Refusal.{Refusal}
 use Rattle.hbc_rows.specs.Rows as rows
 use Rattle.hbc_function_record.specs.declared.Layout.{Layout}
 use Rattle.hbc_function_record.specs.declared.Found.{Found}
 use Rattle.hbc_function_record.specs.Row.{width, row_words}
-use Rattle.hbc_function_header.specs.declared.Reading.{Reading}
-use Rattle.hbc_function_header.specs.Header.{says_reading, function_at, opened}
+use Rattle.hbc_function_header.specs.Header.{function_at, opened}
 use Rattle.hbc_function_totals.specs.declared.Share.{Share}
 use Rattle.hbc_function_totals.specs.declared.Totals.{Totals}
 use Rattle.hbc_function_totals.specs.Totals.{share_of, share, totals, sums}
@@ -78,7 +79,7 @@ abbrev pub summed : List ℕ → ℕ → Table
 summed t n = record { rows = t; totals = totals_of t n }
 
 -- what a read promises: the answer, and what the lent table and totals have become
-abbrev pub ReadFunctions : List ℕ → Layout → ℕ → ℕ → Table → Reading → Table → Type 0
+abbrev pub ReadFunctions : List ℕ → Layout → ℕ → ℕ → Table → Result (Unit {0}) Refusal → Table → Type 0
 ReadFunctions s layout start count before =
-    Lends says_reading (read_answer s layout start count (length before.rows))
+    Lends answered (read_answer s layout start count (length before.rows))
     (summed (put_rows all (function_at s layout start) before.rows count) count) before

@@ -3,34 +3,31 @@
 
 ghost use Rattle.std.specs.Prelude.{◌≡◌, cond, ◌+◌, ◌-◌, ◌*◌, ◌≤◌, ◌<◌, length, leb, eqb};
 ghost use Rattle.hbc_io.specs.Answer.{gives, asked};
+ghost use Rattle.hbc_io.specs.Answers.{answered};
 ghost use Rattle.hbc_io.specs.Outcome.{limit};
 ghost use Rattle.hbc_rows.specs.Rows.{row_at, put_row};
 ghost use Rattle.hbc_function_record.specs.Row.{width};
 ghost use Rattle.hbc_function_record.specs.declared.Layout.TheVariants.{Legacy16, Modern12};
-ghost use Rattle.hbc_function_header.specs.Header.{says_reading, function_at, row_of};
+ghost use Rattle.hbc_function_header.specs.Header.{function_at, row_of};
 ghost use Rattle.hbc_function_header.specs.Meets.{meets};
-ghost use Rattle.hbc_function_totals.specs.Totals.{share_of, sums, kept, says_kept};
+ghost use Rattle.hbc_function_totals.specs.Totals.{share_of, sums, kept};
 ghost use Rattle.hbc_function.specs.Table.{all, scan, row_by, share_by, put_rows, lent, ReadFunctions};
 ghost use Rattle.hbc_function.specs.Refresh.{held, put_met, RefreshFunctions};
-ghost use Rattle.hbc_function.specs.Private.{Next, Own, Plain, Apart, Ran, says_checked, with_old, Solid, SolidTo, Safe, Settled};
+ghost use Rattle.hbc_function.specs.Private.{Next, Own, Plain, Apart, Ran, says_met, with_old, Solid, SolidTo, Safe, Settled};
 
-use hbc_function_header::{Meeting, Reading, check_function, function_meets, function_row};
+use hbc_function_header::{Reading, check_function, function_meets, function_row};
 use hbc_function_record::{
     INLINE, Layout, RECORD_WIDTH, WIDTH, header_size, is_flagged, legacy_row, modern_row,
 };
 use hbc_function_totals::{Kept, Share, Totals, exchange, share_of};
-use hbc_io::{LIMIT, Refusal, refuse};
+use hbc_io::{LIMIT, Reason, Refusal, refuse};
 use hbc_rows::put_row;
 
 // Totals below it cannot come above 2^63 - 1 by what a file holds.
 const SAFE: u64 = 0x4000_0000_0000_0000;
 
 // How many functions were read again, or the refusal.
-#[derive(Clone, Copy)]
-pub enum Refreshed {
-    Done(u32),
-    Refused(Refusal),
-}
+pub type Refreshed = Result<u32, Refusal>;
 
 // What a loop over rows comes to: the first function that it left, and the totals of those before it.
 #[derive(Clone, Copy)]
@@ -41,11 +38,12 @@ struct Run {
 }
 
 // What the first pass of a refresh finds: how many functions are read again, to where they follow the first of them without a gap, and the totals of the old
-// rows of all of them; or the refusal.
+// rows of all of them.
 #[derive(Clone, Copy)]
-enum Checked {
-    Met(u32, u32, Totals),
-    Refused(Refusal),
+struct Met {
+    count: u32,
+    end: u32,
+    old: Totals,
 }
 
 // Whether function `id` is known to be read from its own header alone: most are, and cost the least.
@@ -62,12 +60,13 @@ fn is_plain(s: &[u8], layout: Layout, start: usize, id: u32) -> bool
 }
 
 // Whether function `id` of a table that starts in a file of at most 2^30 bytes can be read.
+#[tactic(auto, using(hbc_function_header::proofs::Headers::read_at))]
 fn check_at(s: &[u8], layout: Layout, start: usize, id: u32) -> Reading
     requires { (start ≤ length s.now) × (length s.now ≤ limit) }
-    ensures { says_reading result ≡ asked (function_at s.now layout start id) }
+    ensures { answered result ≡ asked (function_at s.now layout start id) }
 {
     if is_plain(s, layout, start, id) {
-        return Reading::Read;
+        return Ok(());
     }
     check_function(s, layout, start, id)
 }
@@ -92,6 +91,7 @@ fn is_apart(s: &[u8], layout: Layout, start: usize, low: usize, high: usize, id:
 }
 
 // Whether function `id` meets a span of the file. One whose header is not there does not.
+#[tactic(auto, using(hbc_function_header::proofs::Meetings::met_given, hbc_function_header::proofs::Meetings::met_refused))]
 fn meets_at(s: &[u8], layout: Layout, start: usize, low: usize, high: usize, id: u32) -> bool
     requires { (start ≤ length s.now) × (length s.now ≤ limit) × (low ≤ high) × (high ≤ length s.now) }
     ensures { result ≡ meets s.now layout start low high id }
@@ -99,10 +99,7 @@ fn meets_at(s: &[u8], layout: Layout, start: usize, low: usize, high: usize, id:
     if is_apart(s, layout, start, low, high, id) {
         return false;
     }
-    match function_meets(s, layout, start, id, low, high) {
-        Meeting::Met(met) => met,
-        Meeting::Refused(r) => false,
-    }
+    function_meets(s, layout, start, id, low, high).unwrap_or(false)
 }
 
 // What row `id` of a table adds to the totals.
@@ -120,7 +117,7 @@ fn write_row(s: &[u8], layout: Layout, start: usize, id: u32, row: &mut [u32])
     requires row_len { length row.old ≡ width }
     ensures { row.new ≡ row_of (function_at s.now layout start id) row.old }
 {
-    function_row(s, layout, start, id, row);
+    let _ = function_row(s, layout, start, id, row);
 }
 
 // The row of function `id` into its place, and what it adds to the totals.
@@ -166,37 +163,31 @@ fn write_modern_row(s: &[u8], start: usize, id: u32, table: &mut [u32]) -> Share
 }
 
 // The first refusal among functions 0 to count - 1: a loop for each layout, so that no turn asks which it is.
+#[tactic(auto, using(crate::proofs::Laws::scanning))]
 fn check_legacy(s: &[u8], start: usize, count: u32) -> Reading
     requires { (start ≤ length s.now) × (length s.now ≤ limit) }
-    ensures { says_reading result ≡ asked (scan all (function_at s.now Legacy16 start) count) }
+    ensures { answered result ≡ asked (scan all (function_at s.now Legacy16 start) count) }
 {
-    let mut id: u32 = 0;
-    while id < count {
-        if let Reading::Refused(r) = check_at(s, Layout::Legacy16, start, id) {
-            return Reading::Refused(r);
-        }
-        id += 1;
+    for id in 0..count {
+        check_at(s, Layout::Legacy16, start, id)?;
     }
-    Reading::Read
+    Ok(())
 }
 
+#[tactic(auto, using(crate::proofs::Laws::scanning))]
 fn check_modern(s: &[u8], start: usize, count: u32) -> Reading
     requires { (start ≤ length s.now) × (length s.now ≤ limit) }
-    ensures { says_reading result ≡ asked (scan all (function_at s.now Modern12 start) count) }
+    ensures { answered result ≡ asked (scan all (function_at s.now Modern12 start) count) }
 {
-    let mut id: u32 = 0;
-    while id < count {
-        if let Reading::Refused(r) = check_at(s, Layout::Modern12, start, id) {
-            return Reading::Refused(r);
-        }
-        id += 1;
+    for id in 0..count {
+        check_at(s, Layout::Modern12, start, id)?;
     }
-    Reading::Read
+    Ok(())
 }
 
 fn check_all(s: &[u8], layout: Layout, start: usize, count: u32) -> Reading
     requires { (start ≤ length s.now) × (length s.now ≤ limit) }
-    ensures { says_reading result ≡ asked (scan all (function_at s.now layout start) count) }
+    ensures { answered result ≡ asked (scan all (function_at s.now layout start) count) }
 {
     match layout {
         Layout::Legacy16 => check_legacy(s, start, count),
@@ -274,6 +265,7 @@ fn write_legacy(s: &[u8], start: usize, from: u32, to: u32, table: &mut [u32]) -
     let mut large: u64 = 0;
     let mut sizes: u64 = 0;
     let mut id = from;
+    // no `for`: a run says where it ended
     while id < to {
         let run = write_legacy_run(s, start, id, to, table);
         large += run.large;
@@ -299,6 +291,7 @@ fn write_modern(s: &[u8], start: usize, from: u32, to: u32, table: &mut [u32]) -
     let mut large: u64 = 0;
     let mut sizes: u64 = 0;
     let mut id = from;
+    // no `for`: a run says where it ended
     while id < to {
         let run = write_modern_run(s, start, id, to, table);
         large += run.large;
@@ -348,24 +341,23 @@ pub fn read_functions(
         result (lent table.new large.new sizes.new) }
 {
     if LIMIT < file.len() {
-        return Reading::Refused(refuse(1, 0));
+        return Err(refuse(Reason::TooLong as u32, 0));
     }
     if file.len() < start {
-        return Reading::Refused(refuse(2, 0));
+        return Err(refuse(Reason::PastEnd as u32, 0));
     }
     if table.len() < (count as usize) * WIDTH {
-        return Reading::Refused(refuse(4, 0));
+        return Err(refuse(Reason::TooFewRows as u32, 0));
     }
-    let found = check_all(file, layout, start, count);
-    if let Reading::Read = found {
-        let sums = write_rows(file, layout, start, 0, count, table);
-        *large = sums.large;
-        *sizes = sums.sizes;
-    }
-    found
+    check_all(file, layout, start, count)?;
+    let sums = write_rows(file, layout, start, 0, count, table);
+    *large = sums.large;
+    *sizes = sums.sizes;
+    Ok(())
 }
 
 // The first of functions `from` to count - 1 that meets the span, count if none does. Both passes of a refresh go by it, so that the test is in one loop.
+#[tactic(auto, using(crate::proofs::Passes::nexts))]
 fn next_met(
     s: &[u8],
     layout: Layout,
@@ -378,14 +370,12 @@ fn next_met(
     requires { (start ≤ length s.now) × (length s.now ≤ limit) × (low ≤ high) × (high ≤ length s.now) × (from ≤ count) }
     ensures { Next (meets s.now layout start low high) from count result }
 {
-    let mut id = from;
-    while id < count {
+    for id in from..count {
         if meets_at(s, layout, start, low, high, id) {
             return id;
         }
-        id += 1;
     }
-    id
+    count
 }
 
 // Where functions end that follow one another up to `end`, if function `id` comes to them.
@@ -410,11 +400,11 @@ fn check_met(
     high: usize,
     first: u32,
     table: &[u32],
-) -> Checked
+) -> Result<Met, Refusal>
     requires start_in_bounds { (start ≤ length s.now) × (length s.now ≤ limit) × (low ≤ high) × (high ≤ length s.now) }
     requires next { Next (meets s.now layout start low high) 0 count first }
     requires width_in_bounds { count * width ≤ length table.now }
-    ensures { (says_checked result ≡ with_old (scan (meets s.now layout start low high) (function_at s.now layout start) count)
+    ensures { (says_met result ≡ with_old (scan (meets s.now layout start low high) (function_at s.now layout start) count)
         (sums (meets s.now layout start low high) (λ i. share_of (row_at width table.now i)) count))
         × SolidTo (meets s.now layout start low high) (function_at s.now layout start) first count result }
 {
@@ -423,10 +413,9 @@ fn check_met(
     let mut large: u64 = 0;
     let mut sizes: u64 = 0;
     let mut id = first;
+    // no `for`: the next is found by a search
     while id < count {
-        if let Reading::Refused(r) = check_at(s, layout, start, id) {
-            return Checked::Refused(r);
-        }
+        check_at(s, layout, start, id)?;
         let share = share_at(table, id);
         large += share.large as u64;
         sizes += share.size as u64;
@@ -434,7 +423,11 @@ fn check_met(
         end = end_after(end, id);
         id = next_met(s, layout, start, low, high, id + 1, count);
     }
-    Checked::Met(n, end, Totals { large, sizes })
+    Ok(Met {
+        count: n,
+        end,
+        old: Totals { large, sizes },
+    })
 }
 
 // What function `id` adds to the totals, nothing if it cannot be read. It need not be fast.
@@ -463,25 +456,19 @@ fn keep_met(
     requires start_in_bounds { (start ≤ length s.now) × (length s.now ≤ limit) × (low ≤ high) × (high ≤ length s.now) }
     requires next { Next (meets s.now layout start low high) 0 count first }
     requires width_in_bounds { count * width ≤ length table.now }
-    ensures { says_kept result ≡ kept (meets s.now layout start low high) (λ i. share_of (row_at width table.now i))
+    ensures { answered result ≡ kept (meets s.now layout start low high) (λ i. share_of (row_at width table.now i))
         (λ i. share_by (function_at s.now layout start i)) before count }
 {
     let mut totals = before;
     let mut id = first;
+    // no `for`: the next is found by a search
     while id < count {
         let old = share_at(table, id);
         let new = new_share(s, layout, start, id);
-        match exchange(totals, id, old, new) {
-            Kept::Now(t) => {
-                totals = t;
-            }
-            Kept::Refused(r) => {
-                return Kept::Refused(r);
-            }
-        }
+        totals = exchange(totals, id, old, new)?;
         id = next_met(s, layout, start, low, high, id + 1, count);
     }
-    Kept::Now(totals)
+    Ok(totals)
 }
 
 // The rows of the n among functions 0 to count - 1 that meet the span, the first of them being given, and their totals.
@@ -550,6 +537,7 @@ fn patch_met(
 // Whether neither total can fall below 0 or go above 2^63 - 1, whatever is read: so with true totals, of which the old rows are a part. Then they need not
 // be gone through row by row, and no large header is looked at before it is read. What a file can add is below 2^62: at most 2^30 functions, each of less than
 // 2^32 bytes.
+#[tactic(auto, using(crate::proofs::Sums::not_safe))]
 fn is_safe(large: u64, sizes: u64, old: Totals) -> bool
     ensures { Safe large sizes old result }
 {
@@ -597,21 +585,17 @@ fn settle(
         let new = patch_met(s, layout, start, count, low, high, first, end, n, table);
         *large = *large - old.large + new.large;
         *sizes = *sizes - old.sizes + new.sizes;
-        return Refreshed::Done(n);
+        return Ok(n);
     }
     let before = Totals {
         large: *large,
         sizes: *sizes,
     };
-    match keep_met(s, layout, start, count, low, high, first, table, before) {
-        Kept::Now(t) => {
-            patch_met(s, layout, start, count, low, high, first, end, n, table);
-            *large = t.large;
-            *sizes = t.sizes;
-            Refreshed::Done(n)
-        }
-        Kept::Refused(r) => Refreshed::Refused(r),
-    }
+    let after = keep_met(s, layout, start, count, low, high, first, table, before)?;
+    patch_met(s, layout, start, count, low, high, first, end, n, table);
+    *large = after.large;
+    *sizes = after.sizes;
+    Ok(n)
 }
 
 // How many inline headers the file has room for.
@@ -640,29 +624,28 @@ pub fn refresh_functions(
         result (lent table.new large.new sizes.new) }
 {
     if LIMIT < file.len() {
-        return Refreshed::Refused(refuse(1, 0));
+        return Err(refuse(Reason::TooLong as u32, 0));
     }
     if file.len() < start {
-        return Refreshed::Refused(refuse(2, 0));
+        return Err(refuse(Reason::PastEnd as u32, 0));
     }
     if high < low {
-        return Refreshed::Refused(refuse(10, 0));
+        return Err(refuse(Reason::BadSpan as u32, 0));
     }
     if file.len() < high {
-        return Refreshed::Refused(refuse(10, 0));
+        return Err(refuse(Reason::BadSpan as u32, 0));
     }
     if table.len() < (count as usize) * WIDTH {
-        return Refreshed::Refused(refuse(4, 0));
+        return Err(refuse(Reason::TooFewRows as u32, 0));
     }
     let room = room_for(file, layout, start);
     if room < count as usize {
-        return Refreshed::Refused(refuse(3, room as u32));
+        return Err(refuse(Reason::Cut as u32, room as u32));
     }
     let first = next_met(file, layout, start, low, high, 0, count);
-    match check_met(file, layout, start, count, low, high, first, table) {
-        Checked::Met(n, end, old) => settle(
-            file, layout, start, count, low, high, first, end, n, old, table, large, sizes,
-        ),
-        Checked::Refused(r) => Refreshed::Refused(r),
-    }
+    let met = check_met(file, layout, start, count, low, high, first, table)?;
+    settle(
+        file, layout, start, count, low, high, first, met.end, met.count, met.old, table, large,
+        sizes,
+    )
 }

@@ -1,2 +1,3 @@
+pub mod FourWords
 pub mod Sums
 pub mod Words

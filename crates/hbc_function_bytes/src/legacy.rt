@@ -1,11 +1,11 @@
 // The rows of the legacy layout. What is wrong is added up: one test, and no branch on the way.
-ghost use Rattle.std.specs.Prelude.{◌≡◌, [], ◌∷◌, ◌+◌, ◌/◌};
-ghost use Rattle.hbc_bits.specs.Fields.{words_of};
+ghost use Rattle.std.specs.Prelude.{◌≡◌, ◌+◌, ◌/◌};
 ghost use Rattle.hbc_function_record.specs.declared.Layout.TheVariants.{Legacy16};
 ghost use Rattle.hbc_function_bytes.specs.Bytes.{values_in, inline_number, pointer_to, right_row};
+ghost use Rattle.hbc_function_bytes.specs.Private.{Holds};
 
-use crate::{OVERFLOW, put};
-use hbc_function_record::bit_layout::LEGACY;
+use crate::OVERFLOW;
+use hbc_function_record::bit_layout::{Field, LEGACY};
 use hbc_function_record::{
     ROW_ENVIRONMENT_SIZE, ROW_FLAGS, ROW_FRAME_SIZE, ROW_ID, ROW_INFO_OFFSET, ROW_LAYOUT, ROW_NAME,
     ROW_OFFSET, ROW_PARAM_COUNT, ROW_READ, ROW_SIZE, ROW_WRITE, WIDTH,
@@ -44,55 +44,32 @@ pub(crate) fn is_right(row: [u32; WIDTH], id: u32) -> bool
     ) == 0
 }
 
-// The words of the header that holds these values.
-fn header(
-    offset: u32,
-    param_count: u32,
-    size: u32,
-    name: u32,
-    info_offset: u32,
-    frame_size: u32,
-    environment_size: u32,
-    read: u32,
-    write: u32,
-    flags: u32,
-) -> [u32; 4]
-    ensures { result ≡ words_of 4 (inline_number Legacy16
-        (offset ∷ param_count ∷ size ∷ name ∷ info_offset ∷ frame_size ∷ environment_size ∷ read ∷ write ∷ flags ∷ [])) }
+// Each field, and the word of a row that it holds.
+pub(crate) fn fields() -> [(Field, usize); 10]
+    ensures { Holds Legacy16 result }
 {
     let list = LEGACY;
-    let a = put(offset, list.offset) + put(param_count, list.param_count);
-    let b = put(size, list.size) + put(name, list.name);
-    let c = put(info_offset, list.info_offset) + put(frame_size, list.frame_size);
-    let d = put(environment_size, list.environment_size)
-        + put(read, list.read)
-        + put(write, list.write)
-        + put(flags, list.flags);
-    [a, b, c, d]
-}
-
-pub(crate) fn words(row: [u32; WIDTH]) -> [u32; 4]
-    ensures { result ≡ words_of 4 (inline_number Legacy16 (values_in Legacy16 row)) }
-{
-    header(
-        row[ROW_OFFSET],
-        row[ROW_PARAM_COUNT],
-        row[ROW_SIZE],
-        row[ROW_NAME],
-        row[ROW_INFO_OFFSET],
-        row[ROW_FRAME_SIZE],
-        row[ROW_ENVIRONMENT_SIZE],
-        row[ROW_READ],
-        row[ROW_WRITE],
-        row[ROW_FLAGS],
-    )
+    [
+        (list.offset, ROW_OFFSET),
+        (list.param_count, ROW_PARAM_COUNT),
+        (list.size, ROW_SIZE),
+        (list.name, ROW_NAME),
+        (list.info_offset, ROW_INFO_OFFSET),
+        (list.frame_size, ROW_FRAME_SIZE),
+        (list.environment_size, ROW_ENVIRONMENT_SIZE),
+        (list.read, ROW_READ),
+        (list.write, ROW_WRITE),
+        (list.flags, ROW_FLAGS),
+    ]
 }
 
 // Of the flags the overflow bit alone.
-pub(crate) fn pointer(place: usize) -> [u32; 4]
-    ensures { result ≡ words_of 4 (inline_number Legacy16 (pointer_to Legacy16 place)) }
+pub(crate) fn pointer(place: usize) -> [u32; WIDTH]
+    ensures { inline_number Legacy16 (values_in Legacy16 result) ≡ inline_number Legacy16 (pointer_to Legacy16 place) }
 {
-    let low = (place % 0x1_0000) as u32;
-    let high = (place / 0x1_0000 % 0x1_0000_0000) as u32;
-    header(low, 0, 0, 0, high, 0, 0, 0, 0, OVERFLOW)
+    let mut row = [0u32; WIDTH];
+    row[ROW_OFFSET] = (place % 0x1_0000) as u32;
+    row[ROW_INFO_OFFSET] = (place / 0x1_0000 % 0x1_0000_0000) as u32;
+    row[ROW_FLAGS] = OVERFLOW;
+    row
 }

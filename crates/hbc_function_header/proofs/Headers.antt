@@ -6,31 +6,31 @@ use mathlib.Core.Bool.{Bool, true, false, cond}
 use native.Mathlib.Omega.{arith}
 use lib.ListN.{length}
 use lib.Dec.{ltb}
-use borrow.Author.Tests.{le-ltb, lt-ltb, ltb-false, eq-eqb, ne_eqb}
-use Rattle.hbc_io.specs.Outcome.{limit}
+use borrow.Author.Tests.{le-ltb, ltb-false, eq-eqb, ne_eqb}
+use Rattle.std.specs.Prelude.{Option, Some, None, Result, Ok, Err}
+use Rattle.hbc_io.specs.Outcome.{limit, refusal_at}
 use Rattle.hbc_io.specs.Answer.{Answer, gives, refuses, refused_at, asked}
+use Rattle.hbc_io.specs.Answers.{answered}
 use Rattle.hbc_io.specs.Lends.{below, choose, written}
 use Rattle.hbc_io.specs.Plain.{word_at}
-use Rattle.hbc_io.proofs.Exits.{reached, words}
+use Rattle.hbc_io.specs.declared.Reason.{Reason}
+use Rattle.hbc_io.specs.declared.Reason.TheVariants as reason
+use Rattle.hbc_io.specs.declared.Refusal.{Refusal}
+use Rattle.hbc_io.proofs.Exits.{reached, not_given, words}
 use Rattle.hbc_io.proofs.Plains.{word_there}
 use Rattle.hbc_rows.specs.Rows.{put_row}
 use Rattle.hbc_rows.proofs.RowsAt.{row_whole}
 use Rattle.hbc_function_record.specs.declared.Layout.{Layout}
 use Rattle.hbc_function_record.specs.declared.Layout.TheVariants as lay
 use Rattle.hbc_function_record.specs.declared.Found.{Found}
-use Rattle.hbc_function_record.specs.declared.Link.{Link}
-use Rattle.hbc_function_record.specs.declared.Link.TheVariants as link
 use Rattle.hbc_function_record.specs.Record.{size_of, large_of, inline_of, large_in, flags_of, overflowed, link_of}
 use Rattle.hbc_function_record.specs.Row.{width, inline, row_words, inline_found}
 use Rattle.hbc_function_record.proofs.Records.{large_there}
 use Rattle.hbc_function_record.proofs.Rows.{words_length}
-use Rattle.hbc_function_header.specs.declared.Reading.{Reading}
 use Rattle.hbc_function_header.specs.declared.Ground.{Ground}
 use Rattle.hbc_function_header.specs.declared.Ground.TheVariants as ground
-use Rattle.hbc_function_header.specs.declared.Where.{Where}
-use Rattle.hbc_function_header.specs.declared.Where.TheVariants as wh
-use Rattle.hbc_function_header.specs.Header.{says_reading, header_at, ground_by, ground_of, ground_at, where_of, where_at, found, record_at, function_at, opened, headed}
-use Rattle.hbc_function_header.specs.Header.{read_function, function_ground, row_of, row_answer, FunctionRow}
+use Rattle.hbc_function_header.specs.Header.{header_at, ground_of, where_of, where_at, found, record_at, function_at, opened, headed}
+use Rattle.hbc_function_header.specs.Header.{read_function, row_of, row_answer, FunctionRow}
 use Rattle.hbc_function_header.specs.Private.{RowBy}
 
 -- ---- the place of a header
@@ -43,86 +43,53 @@ pub size_times : (layout : Layout) (i : ℕ) → i < 2 ^ 32 → i * size_of layo
 size_times lay.Legacy16 i h = omega arith
 size_times lay.Modern12 i h = omega arith
 
--- ---- the ground, by the place of the header
-
-module _ (s : List ℕ) (layout : Layout) (at : ℕ) where
-  pub ground_cut : length s < at + size_of layout → ground.None ≡ ground_of s layout at
-  unfolding ground_of below
-  ground_cut h = sym (rw (lt-ltb (length s) (at + size_of layout) h))
-
-  pub ground_by_lem : {l v : Link} → at + size_of layout ≤ length s → l ≡ link_of (inline_of layout 0 (word_at (size_of layout) s at)) → l ≡ v → ground_by at v ≡ ground_of s layout at
-  unfolding ground_of below
-  ground_by_lem h e f =
-      ap (ground_by at) (sym f ∙ e ∙ ap (λ (n : ℕ). link_of (inline_of layout 0 n)) (word_there (size_of layout) s at h)) ∙ sym (rw (le-ltb (length s) (at + size_of layout) h))
-
 -- ---- where the record is
 
-no_inline : {k : ℕ} → wh.Refused k ≡ wh.Inline → ⊥
-no_inline e = let z : ◌≡◌ {A = ℕ} 0 1 = cc in omega arith
-
-no_large : {k p : ℕ} → wh.Refused k ≡ wh.Large p → ⊥
-no_large e = let z : ◌≡◌ {A = ℕ} 0 1 = cc in omega arith
-
-not_both : {p : ℕ} → wh.Inline ≡ wh.Large p → ⊥
-not_both e = let z : ◌≡◌ {A = ℕ} 0 1 = cc in omega arith
-
-module _ (s : List ℕ) (n : ℕ) where
-  -- the cases of a large header
-  module _ (at place : ℕ) where
-    pub where_past : length s < place → wh.Refused 2 ≡ where_of s n (ground.Large at place)
-    unfolding where_of below
-    where_past h = sym (rw (lt-ltb (length s) place h))
-
-    pub where_cut : place ≤ length s → length s < place + n → wh.Refused 3 ≡ where_of s n (ground.Large at place)
-    unfolding where_of below
-    where_cut h k = sym (rw (le-ltb (length s) place h, lt-ltb (length s) (place + n) k))
-
-    pub where_in : place + n ≤ length s → wh.Large place ≡ where_of s n (ground.Large at place)
-    unfolding where_of below
-    where_in k = let h : place ≤ length s = omega arith in sym (rw (le-ltb (length s) place h, le-ltb (length s) (place + n) k))
-
-  -- a large header is there where the record is found in it
-  pub where_there : (g : Ground) {p : ℕ} → where_of s n g ≡ wh.Large p → p + n ≤ length s
-  unfolding where_of
-  where_there ground.None f = absurd (no_large f)
-  where_there (ground.Inline at) f = absurd (not_both f)
-  where_there (ground.Large at place) {p} f =
-      let a = reached (length s) place (wh.Refused 2) _ no_large f in
-      let b = reached (length s) (place + n) (wh.Refused 3) (wh.Large place) no_large a.1 in
-      let q : place ≡ p = cc in
-      rw (← q) b.0
+-- a large header is there where the record is found in it
+where_there : (s : List ℕ) (n : ℕ) (g : Option Ground) {p : ℕ} → where_of s n g ≡ Ok (Some p) → p + n ≤ length s
+unfolding where_of
+where_there s n None f = absurd (cc)
+where_there s n (Some (ground.Inline at)) f = absurd (cc)
+where_there s n (Some (ground.Large at place)) {p} f =
+    let a = reached (length s) place (Err reason.PastEnd) _ (λ e. cc) f in
+    let b = reached (length s) (place + n) (Err reason.Cut) (Ok (Some place)) (λ e. cc) a.1 in
+    let q : place ≡ p = cc in
+    rw (← q) b.0
 
 -- and its own header, where it is found in that
-here_by : (s : List ℕ) (m at n : ℕ) (g : Ground) (b : Bool) → ltb (length s) (at + n) ≡ b → where_of s m (cond b ground.None g) ≡ wh.Inline → at + n ≤ length s
+here_by : (s : List ℕ) (m at n : ℕ) (g : Ground) (b : Bool) → ltb (length s) (at + n) ≡ b → where_of s m (cond b None (Some g)) ≡ Ok None → at + n ≤ length s
 unfolding where_of
-here_by s m at n g true e f = absurd (no_inline f)
+here_by s m at n g true e f = absurd (cc)
 here_by s m at n g false e f = ltb-false (length s) (at + n) e
 
 module _ (s : List ℕ) (layout : Layout) (at : ℕ) where
-  pub where_here : where_at s layout at ≡ wh.Inline → at + size_of layout ≤ length s
+  where_here : where_at s layout at ≡ Ok None → at + size_of layout ≤ length s
   unfolding where_at ground_of below
   where_here f = here_by s (large_of layout) at (size_of layout) _ (ltb (length s) (at + size_of layout)) refl f
 
-  pub where_at_lem : {g : Ground} {n : ℕ} → g ≡ ground_of s layout at → n ≡ large_of layout → where_of s n g ≡ where_at s layout at
-  unfolding where_at
-  where_at_lem e f = rw (e, f)
-
   -- ---- what is found there
 
-  pub large_held : {w : Where} {place : ℕ} → w ≡ where_at s layout at → w ≡ wh.Large place → place + large_of layout ≤ length s
+  pub large_held : {w : Result (Option ℕ) Reason} {place : ℕ} → w ≡ where_at s layout at → w ≡ Ok (Some place) → place + large_of layout ≤ length s
   unfolding where_at
   large_held e f = where_there s (large_of layout) (ground_of s layout at) (sym e ∙ f)
 
-  module _ {w : Where} (e : w ≡ where_at s layout at) (i : ℕ) where
-    pub is_found : {v : Where} → w ≡ v → found s layout at i v ≡ record_at s layout at i
+  module _ {w : Result (Option ℕ) Reason} (e : w ≡ where_at s layout at) (i : ℕ) where
+    pub is_found : {v : Result (Option ℕ) Reason} → w ≡ v → found s layout at i v ≡ record_at s layout at i
     unfolding record_at
     is_found f = ap (found s layout at i) (sym f ∙ e)
 
-    pub found_own : {r : Found} → w ≡ wh.Inline → (r.own ≡ inline_of layout i (word_at (size_of layout) s at)) × (r.place ≡ inline) → gives r ≡ record_at s layout at i
+    pub found_asked : {p : Option ℕ} → w ≡ Ok p → gives tt ≡ asked (record_at s layout at i)
+    found_asked {p} f = by p ∙ ap asked (is_found f)
+      where
+        by : (p : Option ℕ) → gives tt ≡ asked (found s layout at i (Ok p))
+        by None = refl
+        by (Some place) = refl
+
+    pub found_own : {r : Found} → w ≡ Ok None → (r.own ≡ inline_of layout i (word_at (size_of layout) s at)) × (r.place ≡ inline) → gives r ≡ record_at s layout at i
     found_own f p =
         (λ j. gives (record { own = (p.0 ∙ ap (inline_of layout i) (word_there (size_of layout) s at (where_here (sym e ∙ f)))) j; place = p.1 j })) ∙ is_found f
 
-    pub found_large : {r : Found} {place : ℕ} → length s ≤ limit → w ≡ wh.Large place → (r.own ≡ large_in s layout place i) × (r.place ≡ place)
+    pub found_large : {r : Found} {place : ℕ} → length s ≤ limit → w ≡ Ok (Some place) → (r.own ≡ large_in s layout place i) × (r.place ≡ place)
         → gives r ≡ record_at s layout at i
     found_large {place = place} h f p =
         (λ j. gives (record { own = (p.0 ∙ sym (large_there s layout place i h (large_held e f))) j; place = p.1 j })) ∙ is_found f
@@ -130,37 +97,58 @@ module _ (s : List ℕ) (layout : Layout) (at : ℕ) where
 -- a function whose header is in the file and not flagged is read from that alone
 module _ (s : List ℕ) (layout : Layout) (at : ℕ) (h : at + size_of layout ≤ length s)
     (o : overflowed (flags_of (inline_of layout 0 (word_at (size_of layout) s at))) ≡ false) where
-  pub plain_ground : ground.Inline at ≡ ground_of s layout at
-  unfolding link_of choose
-  plain_ground = let l : link.Own ≡ link_of (inline_of layout 0 (word_at (size_of layout) s at)) = sym (rw o) in ground_by_lem s layout at h l refl
+  pub plain_ground : Some (ground.Inline at) ≡ ground_of s layout at
+  unfolding ground_of below link_of choose
+  plain_ground = let f = rw (word_there (size_of layout) s at h) at o in sym (rw (le-ltb (length s) (at + size_of layout) h, f))
 
   pub plain_found : (i : ℕ) → gives (inline_found layout i (word_at (size_of layout) s at)) ≡ record_at s layout at i
-  unfolding where_of
-  plain_found i = found_own s layout at (where_at_lem s layout at plain_ground refl) i refl (refl, refl)
+  unfolding where_at where_of
+  plain_found i = let e : Ok None ≡ where_at s layout at = rw (← plain_ground) in found_own s layout at e i refl (refl, refl)
 
 -- ---- the tests of a call, whatever it answers
 
-module _ {A : Type 0} (s : List ℕ) (start : ℕ) (a : Answer A) where
-  pub opened_long : limit < length s → refused_at 1 0 ≡ opened s start a
-  unfolding below
-  opened_long h = sym (rw (lt-ltb limit (length s) h))
+refused_is : {A : Type 0} {r q : Refusal} → ◌≡◌ {A = Answer A} (refuses r) (refuses q) → r ≡ q
+refused_is e = cc
 
-  pub opened_past : length s ≤ limit → length s < start → refused_at 2 0 ≡ opened s start a
-  unfolding below
-  opened_past h k = sym (rw (le-ltb limit (length s) h, lt-ltb (length s) start k))
+-- passed, and refused
+module _ (s : List ℕ) (start : ℕ) where
+  pub open_in : {v : Unit {0}} → gives v ≡ opened s start (gives tt) → (length s ≤ limit) × (start ≤ length s)
+  open_in e = let a = reached _ _ _ _ not_given (sym e) in let b = reached _ _ _ _ not_given a.1 in (a.0, b.0)
 
-  pub opened_at : length s ≤ limit → start ≤ length s → a ≡ opened s start a
+  pub open_out : {A : Type 0} {r : Refusal} (a : Answer A) → ◌≡◌ {A = Answer (Unit {0})} (refuses r) (opened s start (gives tt)) → refuses r ≡ opened s start a
   unfolding below
-  opened_at h k = sym (rw (le-ltb limit (length s) h, le-ltb (length s) start k))
+  open_out {A} {r} a e = by (ltb limit (length s)) (ltb (length s) start) e
+    where
+      by : (p q : Bool) → ◌≡◌ {A = Answer (Unit {0})} (refuses r) (cond p (refused_at 1 0) (cond q (refused_at 2 0) (gives tt))) → refuses r ≡ cond p (refused_at 1 0) (cond q (refused_at 2 0) a)
+      by true q e = let z : r ≡ refusal_at 1 0 = refused_is e in ap refuses z
+      by false true e = let z : r ≡ refusal_at 2 0 = refused_is e in ap refuses z
+      by false false e = absurd (not_given e)
 
-module _ {A : Type 0} (s : List ℕ) (layout : Layout) (start i : ℕ) (a : Answer A) where
-  pub headed_none : length s < header_at layout start i + size_of layout → refused_at 3 i ≡ headed s layout start i a
+  pub opened_at : {A : Type 0} (a : Answer A) → length s ≤ limit → start ≤ length s → a ≡ opened s start a
   unfolding below
-  headed_none h = sym (rw (lt-ltb (length s) (header_at layout start i + size_of layout) h))
+  opened_at a h k = sym (rw (le-ltb limit (length s) h, le-ltb (length s) start k))
 
-  pub headed_at : header_at layout start i + size_of layout ≤ length s → a ≡ headed s layout start i a
+module _ (s : List ℕ) (layout : Layout) (start i : ℕ) where
+  pub head_in : {at : ℕ} → gives at ≡ headed s layout start i (gives (header_at layout start i)) → (at ≡ header_at layout start i) × (at + size_of layout ≤ length s)
+  head_in {at} e =
+      let a = reached _ _ _ _ not_given (sym e) in let b = a.0 in let p : at ≡ header_at layout start i = cc in (p, rw p b)
+
+  pub head_out : {A : Type 0} {r : Refusal} (a : Answer A) → refuses r ≡ headed s layout start i (gives (header_at layout start i)) → refuses r ≡ headed s layout start i a
   unfolding below
-  headed_at h = sym (rw (le-ltb (length s) (header_at layout start i + size_of layout) h))
+  head_out {A} {r} a e = by (ltb (length s) (header_at layout start i + size_of layout)) e
+    where
+      by : (p : Bool) → ◌≡◌ {A = Answer ℕ} (refuses r) (cond p (refused_at 3 i) (gives (header_at layout start i))) → refuses r ≡ cond p (refused_at 3 i) a
+      by true e = let z : r ≡ refusal_at 3 i = refused_is e in ap refuses z
+      by false e = absurd (not_given e)
+
+  pub headed_at : {A : Type 0} (a : Answer A) → header_at layout start i + size_of layout ≤ length s → a ≡ headed s layout start i a
+  unfolding below
+  headed_at a h = sym (rw (le-ltb (length s) (header_at layout start i + size_of layout) h))
+
+-- what the calls cite of the tests of file and start, and of the header
+pub ruleset opening = (open_in, open_out, opened_at)
+
+pub ruleset heading = (opening, head_in, head_out, headed_at)
 
 -- ---- the calls
 
@@ -169,44 +157,10 @@ module _ (s : List ℕ) (layout : Layout) (start i : ℕ) {at : ℕ} (e : at ≡
   unfolding function_at
   is_function = rw e
 
-  pub is_ground : ground_of s layout at ≡ ground_at s layout start i
-  unfolding ground_at
-  is_ground = rw e
-
 module _ (s : List ℕ) (layout : Layout) (start i : ℕ) where
-  pub read_long : limit < length s → refused_at 1 0 ≡ read_function s layout start i
-  unfolding read_function
-  read_long h = opened_long s start _ h
-
-  pub read_past : length s ≤ limit → length s < start → refused_at 2 0 ≡ read_function s layout start i
-  unfolding read_function
-  read_past h k = opened_past s start _ h k
-
   pub read_at : length s ≤ limit → start ≤ length s → function_at s layout start i ≡ read_function s layout start i
   unfolding read_function
   read_at h k = opened_at s start _ h k
-
-  pub ground_long : limit < length s → refused_at 1 0 ≡ function_ground s layout start i
-  unfolding function_ground
-  ground_long h = opened_long s start _ h
-
-  pub ground_past : length s ≤ limit → length s < start → refused_at 2 0 ≡ function_ground s layout start i
-  unfolding function_ground
-  ground_past h k = opened_past s start _ h k
-
-  pub ground_none : {at n : ℕ} → length s ≤ limit → start ≤ length s → at ≡ header_at layout start i → n ≡ size_of layout → length s < at + n
-      → refused_at 3 i ≡ function_ground s layout start i
-  unfolding function_ground
-  ground_none h k e f m = headed_none s layout start i _ (rw (← e, ← f) m) ∙ opened_at s start _ h k
-
-  -- its own header is in the file: what it is read from
-  pub ground_at_lem : {at n : ℕ} {l v : Link} → length s ≤ limit → start ≤ length s → at ≡ header_at layout start i → n ≡ size_of layout → at + n ≤ length s
-      → l ≡ link_of (inline_of layout 0 (word_at (size_of layout) s at)) → l ≡ v → gives (ground_by at v) ≡ function_ground s layout start i
-  unfolding function_ground
-  ground_at_lem {at} h k e f m p q =
-      let w : header_at layout start i + size_of layout ≤ length s = rw (← e, ← f) m in
-      let u : at + size_of layout ≤ length s = rw (← f) m in
-      ap gives (ground_by_lem s layout at u p q ∙ is_ground s layout start i e) ∙ headed_at s layout start i _ w ∙ opened_at s start _ h k
 
 -- ---- a lent row
 
@@ -220,15 +174,6 @@ written_by : (a : Answer Found) (before : List ℕ) → written (asked a) (row_o
 written_by (gives r) before = refl
 written_by (refuses x) before = refl
 
-module _ (s : List ℕ) (layout : Layout) (start i words : ℕ) where
-  pub row_long : limit < length s → refused_at 1 0 ≡ row_answer s layout start i words
-  unfolding row_answer
-  row_long h = opened_long s start _ h
-
-  pub row_past : length s ≤ limit → length s < start → refused_at 2 0 ≡ row_answer s layout start i words
-  unfolding row_answer
-  row_past h k = opened_past s start _ h k
-
 module _ (s : List ℕ) (layout : Layout) (start i words : ℕ) (h : length s ≤ limit) (k : start ≤ length s) where
   pub row_one : words ≡ width → asked (function_at s layout start i) ≡ row_answer s layout start i words
   unfolding row_answer choose
@@ -238,7 +183,7 @@ module _ (s : List ℕ) (layout : Layout) (start i words : ℕ) (h : length s �
   unfolding row_answer choose
   row_other e = sym (sym (opened_at s start _ h k) ∙ rw (ne_eqb words width e))
 
-pub row_is : (s : List ℕ) (layout : Layout) (start i : ℕ) (before : List ℕ) {r : Reading} {row : List ℕ} → length s ≤ limit → start ≤ length s → length before ≡ width
+pub row_is : (s : List ℕ) (layout : Layout) (start i : ℕ) (before : List ℕ) {r : Result (Unit {0}) Refusal} {row : List ℕ} → length s ≤ limit → start ≤ length s → length before ≡ width
     → FunctionRow s layout start i before r row → row ≡ row_of (function_at s layout start i) before
 row_is s layout start i before h k l v =
     words v
@@ -246,14 +191,14 @@ row_is s layout start i before h k l v =
     ∙ written_by (function_at s layout start i) before
 
 -- the call itself, over the row by the header's place
-pub row_by_lem : (s : List ℕ) (layout : Layout) (start i : ℕ) (before : List ℕ) {at : ℕ} {r : Reading} {row : List ℕ} → length s ≤ limit → start ≤ length s → length before ≡ width
+pub row_by_lem : (s : List ℕ) (layout : Layout) (start i : ℕ) (before : List ℕ) {at : ℕ} {r : Result (Unit {0}) Refusal} {row : List ℕ} → length s ≤ limit → start ≤ length s → length before ≡ width
     → at ≡ header_at layout start i → RowBy (record_at s layout at i) before r row → FunctionRow s layout start i before r row
 row_by_lem s layout start i before {r = r} h k l e v = record {
   says = v.says ∙ ap asked (is_function s layout start i e) ∙ row_one s layout start i (length before) h k l;
-  leaves = v.leaves ∙ ap (λ (a : Answer Found). written (says_reading r) (row_of a before) before) (is_function s layout start i e);
+  leaves = v.leaves ∙ ap (λ (a : Answer Found). written (answered r) (row_of a before) before) (is_function s layout start i e);
 }
 
 -- a row is the one of its layout
-pub row_of_layout : (s : List ℕ) (layout l : Layout) (at i : ℕ) {before : List ℕ} {r : Reading} {after : List ℕ} → layout ≡ l → RowBy (record_at s l at i) before r after
+pub row_of_layout : (s : List ℕ) (layout l : Layout) (at i : ℕ) {before : List ℕ} {r : Result (Unit {0}) Refusal} {after : List ℕ} → layout ≡ l → RowBy (record_at s l at i) before r after
     → RowBy (record_at s layout at i) before r after
 row_of_layout s layout l at i {before} {r} {after} e v = subst (λ (x : Layout). RowBy (record_at s x at i) before r after) (sym e) v

@@ -1,54 +1,70 @@
 // What a function is read from, by the place of its header, and what is made of it: what is found, its row, or only whether it can be read.
 ghost use Rattle.std.specs.Prelude.{◌≡◌, ◌+◌, ◌^◌, ◌≤◌, ◌<◌, length};
 ghost use Rattle.hbc_io.specs.Answer.{asked};
-ghost use Rattle.hbc_io.specs.Outcome.{limit};
+ghost use Rattle.hbc_io.specs.Answers.{answered, number_of};
+ghost use Rattle.hbc_io.specs.Outcome.{limit, refusal_at};
 ghost use Rattle.hbc_io.specs.Plain.{word_at};
 ghost use Rattle.hbc_function_record.specs.Record.{size_of, large_of, inline_of, large_in};
 ghost use Rattle.hbc_function_record.specs.Row.{width, inline};
 ghost use Rattle.hbc_function_record.specs.declared.Layout.TheVariants.{Legacy16, Modern12};
-ghost use Rattle.hbc_function_header.specs.Header.{says_function, says_reading, ground_of, where_of, where_at, record_at};
+ghost use Rattle.hbc_function_header.specs.Header.{ground_here, ground_of, where_of, where_at, record_at};
 ghost use Rattle.hbc_function_header.specs.Private.{RowBy};
 
-use crate::{Function, Ground, Reading, Where};
+use crate::{Function, Ground, Reading};
 use hbc_function_record::{
-    Found, INLINE, Layout, Link, header_link, header_size, inline_record, large_record, large_size,
+    Found, INLINE, Layout, header_link, header_size, inline_record, large_record, large_size,
     row_words,
 };
-use hbc_io::refuse;
+use hbc_io::{Reason, Refusal, refuse};
 use hbc_rows::put_row;
 
-pub(crate) fn ground_of(s: &[u8], layout: Layout, at: usize) -> Ground
+// Of a header that is in the file.
+#[tactic(auto, using(hbc_io::proofs::Plains::word_there))]
+pub(crate) fn ground_here(s: &[u8], layout: Layout, at: usize) -> Ground
+    requires { at + size_of layout ≤ length s.now }
+    ensures { result ≡ ground_here s.now layout at }
+{
+    match header_link(s, layout, at) {
+        None => Ground::Inline(at),
+        Some(place) => Ground::Large(at, place),
+    }
+}
+
+#[tactic(auto, unfolding(crate::specs::Header::ground_of, hbc_io::specs::Lends::below), using(crate::proofs::Headers::size_small))]
+fn ground_of(s: &[u8], layout: Layout, at: usize) -> Option<Ground>
     requires { at < 2 ^ 63 }
     ensures { result ≡ ground_of s.now layout at }
 {
     if s.len() < at + header_size(layout) {
-        return Ground::None;
+        return None;
     }
-    match header_link(s, layout, at) {
-        Link::Own => Ground::Inline(at),
-        Link::Large(place) => Ground::Large(at, place),
-    }
+    Some(ground_here(s, layout, at))
 }
 
-// Where the record is, by what the function is read from and the bytes of a large header.
-fn where_of(s: &[u8], g: Ground, n: usize) -> Where
+// Where the record is: in its own header, which is None, or in a large one at a place; or why it is nowhere.
+type Where = Result<Option<usize>, Reason>;
+
+// By what the function is read from and the bytes of a large header.
+#[tactic(auto, unfolding(crate::specs::Header::where_of, hbc_io::specs::Lends::below))]
+fn where_of(s: &[u8], g: Option<Ground>, n: usize) -> Where
     ensures { result ≡ where_of s.now n g }
 {
     match g {
-        Ground::None => Where::Refused(3),
-        Ground::Inline(_) => Where::Inline,
-        Ground::Large(_, place) => {
+        None => Err(Reason::Cut),
+        Some(Ground::Inline(_)) => Ok(None),
+        Some(Ground::Large(_, place)) => {
             if s.len() < place {
-                return Where::Refused(2);
+                return Err(Reason::PastEnd);
             }
             if s.len() - place < n {
-                return Where::Refused(3);
+                return Err(Reason::Cut);
             }
-            Where::Large(place)
+            Ok(Some(place))
         }
     }
 }
 
+#[tactic(auto, unfolding(crate::specs::Header::where_at))]
 fn where_at(s: &[u8], layout: Layout, at: usize) -> Where
     requires { at < 2 ^ 63 }
     ensures { result ≡ where_at s.now layout at }
@@ -77,25 +93,30 @@ fn large(s: &[u8], layout: Layout, place: usize, id: u32) -> Found
     }
 }
 
+fn refused(reason: Reason, id: u32) -> Refusal
+    ensures { result ≡ refusal_at (number_of reason) id }
+{
+    refuse(reason as u32, id)
+}
+
 pub(crate) fn read(s: &[u8], layout: Layout, at: usize, id: u32) -> Function
     requires { (at < 2 ^ 63) × (length s.now ≤ limit) }
-    ensures { says_function result ≡ record_at s.now layout at id }
+    ensures { answered result ≡ record_at s.now layout at id }
 {
     match where_at(s, layout, at) {
-        Where::Inline => Function::Read(inline_record(s, layout, at, id), INLINE),
-        Where::Large(place) => Function::Read(large_record(s, layout, place, id), place as u32),
-        Where::Refused(number) => Function::Refused(refuse(number, id)),
+        Ok(None) => Ok(own(s, layout, at, id)),
+        Ok(Some(place)) => Ok(large(s, layout, place, id)),
+        Err(reason) => Err(refused(reason, id)),
     }
 }
 
 pub(crate) fn check(s: &[u8], layout: Layout, at: usize, id: u32) -> Reading
     requires { at < 2 ^ 63 }
-    ensures { says_reading result ≡ asked (record_at s.now layout at id) }
+    ensures { answered result ≡ asked (record_at s.now layout at id) }
 {
     match where_at(s, layout, at) {
-        Where::Inline => Reading::Read,
-        Where::Large(_) => Reading::Read,
-        Where::Refused(number) => Reading::Refused(refuse(number, id)),
+        Ok(_) => Ok(()),
+        Err(reason) => Err(refused(reason, id)),
     }
 }
 
@@ -106,17 +127,17 @@ fn legacy_row(s: &[u8], at: usize, id: u32, row: &mut [u32]) -> Reading
     ensures { RowBy (record_at s.now Legacy16 at id) row.old result row.new }
 {
     match where_at(s, Layout::Legacy16, at) {
-        Where::Inline => {
+        Ok(None) => {
             let words = row_words(own(s, Layout::Legacy16, at, id));
             put_row(row, 0, &words);
-            Reading::Read
+            Ok(())
         }
-        Where::Large(place) => {
+        Ok(Some(place)) => {
             let words = row_words(large(s, Layout::Legacy16, place, id));
             put_row(row, 0, &words);
-            Reading::Read
+            Ok(())
         }
-        Where::Refused(number) => Reading::Refused(refuse(number, id)),
+        Err(reason) => Err(refused(reason, id)),
     }
 }
 
@@ -126,17 +147,17 @@ fn modern_row(s: &[u8], at: usize, id: u32, row: &mut [u32]) -> Reading
     ensures { RowBy (record_at s.now Modern12 at id) row.old result row.new }
 {
     match where_at(s, Layout::Modern12, at) {
-        Where::Inline => {
+        Ok(None) => {
             let words = row_words(own(s, Layout::Modern12, at, id));
             put_row(row, 0, &words);
-            Reading::Read
+            Ok(())
         }
-        Where::Large(place) => {
+        Ok(Some(place)) => {
             let words = row_words(large(s, Layout::Modern12, place, id));
             put_row(row, 0, &words);
-            Reading::Read
+            Ok(())
         }
-        Where::Refused(number) => Reading::Refused(refuse(number, id)),
+        Err(reason) => Err(refused(reason, id)),
     }
 }
 

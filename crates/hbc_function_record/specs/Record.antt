@@ -1,5 +1,5 @@
 -- docs/FORMAT.md, sections 3.1 to 3.3: the two records, of an inline header by the lists of BitLayout, and of a large one, and where a large one is.
-use Rattle.std.specs.Prelude.{ℕ, ◌+◌, ◌*◌, ◌/◌, ◌%◌, ◌^◌, List, Bool, length, get_or, eqb}
+use Rattle.std.specs.Prelude.{ℕ, ◌+◌, ◌*◌, ◌/◌, ◌%◌, ◌^◌, List, Bool, Option, Some, None, length, get_or, eqb}
 use Rattle.std.specs.Int.Bits.{bit_or}
 use Rattle.hbc_bits.specs.Bits.{le_at, field}
 use Rattle.hbc_bits.specs.Fields.{fields_of}
@@ -12,8 +12,6 @@ use Rattle.hbc_function_record.specs.declared.Legacy.{Legacy}
 use Rattle.hbc_function_record.specs.declared.Modern.{Modern}
 use Rattle.hbc_function_record.specs.declared.Record.{Record}
 use Rattle.hbc_function_record.specs.declared.Record.TheVariants as rec
-use Rattle.hbc_function_record.specs.declared.Link.{Link}
-use Rattle.hbc_function_record.specs.declared.Link.TheVariants as link
 
 -- the bytes of an inline header
 abbrev pub size_of : Layout → ℕ
@@ -145,6 +143,6 @@ unfoldable pub place_of : Record → ℕ
 place_of (rec.Legacy r) = legacy_place r
 place_of (rec.Modern r) = modern_place r
 
--- nothing but itself, or a large header at its packed place
-unfoldable pub link_of : Record → Link
-link_of r = choose (overflowed (flags_of r)) (link.Large (place_of r)) link.Own
+-- a large header at its packed place, or nothing but itself
+unfoldable pub link_of : Record → Option ℕ
+link_of r = choose (overflowed (flags_of r)) (Some (place_of r)) None

@@ -1,7 +1,8 @@
 -- docs/FORMAT.md, section 3.4: a record, and the place of its large header, as the words of a row.
-use Rattle.std.specs.Prelude.{ℕ, List, [], ◌∷◌, ◌++◌}
+use Rattle.std.specs.Prelude.{ℕ, List, [], ◌∷◌, ◌++◌, Result, Ok, Err, eqb, cond}
 use Rattle.hbc_function_record.specs.declared.Layout.{Layout}
 use Rattle.hbc_function_record.specs.declared.Layout.TheVariants as lay
+use Rattle.hbc_function_record.specs.declared.UnknownLayout.{UnknownLayout}
 use Rattle.hbc_function_record.specs.declared.Legacy.{Legacy}
 use Rattle.hbc_function_record.specs.declared.Modern.{Modern}
 use Rattle.hbc_function_record.specs.declared.Record.{Record}
@@ -88,6 +89,10 @@ inline = 4294967295
 abbrev pub number_in : Layout → ℕ
 number_in lay.Legacy16 = 0
 number_in lay.Modern12 = 1
+
+-- and the layout of a number, or that there is none
+abbrev pub layout_of : ℕ → Result Layout UnknownLayout
+layout_of n = cond (eqb n 0) (Ok lay.Legacy16) (cond (eqb n 1) (Ok lay.Modern12) (Err (record { number = n })))
 
 -- layout, id, offset, param_count, size, name, info_offset, frame_size, flags; then environment_size, read, write and four zeros
 unfoldable pub legacy_words : Legacy → List ℕ

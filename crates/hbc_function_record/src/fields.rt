@@ -8,11 +8,12 @@ ghost use Rattle.hbc_function_record.specs.Record.{flags_of, overflowed, legacy_
 
 use crate::bit_layout::{LEGACY, MODERN, OVERFLOW_BIT};
 use crate::words::{cut, word_here};
-use crate::{Layout, Legacy, Link, Modern, large_size};
+use crate::{Layout, Legacy, Modern, large_size};
 use hbc_bits::bits;
 use hbc_io::u8_at;
 
 // The inline legacy record: the fields of lo + 2^64 * hi.
+#[tactic(auto, unfolding(crate::specs::Record::legacy_of, crate::specs::Record::legacy_by, hbc_bits::specs::Fields::fields_of))]
 pub(crate) fn legacy_inline(lo: u64, hi: u64, id: u32) -> Legacy
     ensures { result ≡ legacy_of id (lo + 2 ^ 64 * hi) }
 {
@@ -34,6 +35,7 @@ pub(crate) fn legacy_inline(lo: u64, hi: u64, id: u32) -> Legacy
 }
 
 // The inline modern record, likewise; its info_offset is 0.
+#[tactic(auto, unfolding(crate::specs::Record::modern_of, crate::specs::Record::modern_by, hbc_bits::specs::Fields::fields_of))]
 pub(crate) fn modern_inline(lo: u64, hi: u64, id: u32) -> Modern
     ensures { result ≡ modern_of id (lo + 2 ^ 64 * hi) }
 {
@@ -58,6 +60,7 @@ pub(crate) fn modern_inline(lo: u64, hi: u64, id: u32) -> Modern
 }
 
 // The number of 8 bytes that are there, as two of 4.
+#[tactic(auto, using(crate::proofs::Records::le_eight))]
 pub(crate) fn u64_here(s: &[u8], at: usize) -> u64
     requires { at + 8 ≤ length s.now }
     ensures { result ≡ le_at s.now at 8 }
@@ -66,6 +69,7 @@ pub(crate) fn u64_here(s: &[u8], at: usize) -> u64
 }
 
 // The record of the inline header at `at`.
+#[tactic(auto, using(crate::proofs::Records::le_legacy))]
 pub(crate) fn legacy_here(s: &[u8], at: usize, id: u32) -> Legacy
     requires { at + size_of Legacy16 ≤ length s.now }
     ensures { result ≡ legacy_of id (le_at s.now at (size_of Legacy16)) }
@@ -75,6 +79,7 @@ pub(crate) fn legacy_here(s: &[u8], at: usize, id: u32) -> Legacy
     legacy_inline(lo, hi, id)
 }
 
+#[tactic(auto, using(crate::proofs::Records::le_modern))]
 pub(crate) fn modern_here(s: &[u8], at: usize, id: u32) -> Modern
     requires { at + size_of Modern12 ≤ length s.now }
     ensures { result ≡ modern_of id (le_at s.now at (size_of Modern12)) }
@@ -85,6 +90,7 @@ pub(crate) fn modern_here(s: &[u8], at: usize, id: u32) -> Modern
 }
 
 // The large legacy record: seven u32, three bytes.
+#[tactic(auto, unfolding(crate::specs::Record::legacy_large), using(hbc_io::proofs::Plains::word_there))]
 pub(crate) fn legacy_large(s: &[u8], at: usize, id: u32) -> Legacy
     requires { at + large_of Legacy16 ≤ length s.now }
     ensures { result ≡ legacy_large s.now at id }
@@ -105,6 +111,7 @@ pub(crate) fn legacy_large(s: &[u8], at: usize, id: u32) -> Legacy
 }
 
 // The large modern record: eight u32, five bytes. Its info_offset is the place after it, rounded up to 4.
+#[tactic(auto, unfolding(crate::specs::Record::modern_large), using(hbc_io::proofs::Plains::word_there))]
 pub(crate) fn modern_large(s: &[u8], at: usize, id: u32) -> Modern
     requires { (at + large_of Modern12 ≤ length s.now) × (length s.now ≤ limit) }
     ensures { result ≡ modern_large s.now at id }
@@ -129,12 +136,14 @@ pub(crate) fn modern_large(s: &[u8], at: usize, id: u32) -> Modern
 }
 
 // Where a flagged header's large one is: the parts or-ed, for they overlap.
+#[tactic(auto, unfolding(crate::specs::Record::legacy_place))]
 fn legacy_place(r: Legacy) -> usize
     ensures { result ≡ legacy_place r }
 {
     (r.info_offset as usize) * 0x10000 | (r.offset as usize)
 }
 
+#[tactic(auto, unfolding(crate::specs::Record::modern_place))]
 fn modern_place(r: Modern) -> usize
     ensures { result ≡ modern_place r }
 {
@@ -142,6 +151,7 @@ fn modern_place(r: Modern) -> usize
 }
 
 // The overflow flag.
+#[tactic(auto, unfolding(crate::specs::Record::overflowed))]
 fn overflows(flags: u32) -> bool
     ensures { result ≡ overflowed flags }
 {
@@ -149,6 +159,7 @@ fn overflows(flags: u32) -> bool
 }
 
 // Whether the inline header at `at` is flagged.
+#[tactic(auto, unfolding(crate::specs::Record::inline_of, crate::specs::Record::flags_of), using(crate::proofs::Records::le_legacy))]
 pub(crate) fn legacy_flagged(s: &[u8], at: usize) -> bool
     requires { at + size_of Legacy16 ≤ length s.now }
     ensures { result ≡ overflowed (flags_of (inline_of Legacy16 0 (le_at s.now at (size_of Legacy16)))) }
@@ -159,6 +170,7 @@ pub(crate) fn legacy_flagged(s: &[u8], at: usize) -> bool
     overflows(r.flags)
 }
 
+#[tactic(auto, unfolding(crate::specs::Record::inline_of, crate::specs::Record::flags_of), using(crate::proofs::Records::le_modern))]
 pub(crate) fn modern_flagged(s: &[u8], at: usize) -> bool
     requires { at + size_of Modern12 ≤ length s.now }
     ensures { result ≡ overflowed (flags_of (inline_of Modern12 0 (le_at s.now at (size_of Modern12)))) }
@@ -169,8 +181,9 @@ pub(crate) fn modern_flagged(s: &[u8], at: usize) -> bool
     overflows(r.flags)
 }
 
-// What the inline header at `at` is flagged for.
-pub(crate) fn legacy_link(s: &[u8], at: usize) -> Link
+// The place of the large header that the inline one at `at` is flagged for, if it is.
+#[tactic(auto, unfolding(crate::specs::Record::inline_of), using(crate::proofs::Records::link_legacy, crate::proofs::Records::le_legacy))]
+pub(crate) fn legacy_link(s: &[u8], at: usize) -> Option<usize>
     requires { at + size_of Legacy16 ≤ length s.now }
     ensures { result ≡ link_of (inline_of Legacy16 0 (le_at s.now at (size_of Legacy16))) }
 {
@@ -178,12 +191,13 @@ pub(crate) fn legacy_link(s: &[u8], at: usize) -> Link
     let hi = u64_here(s, at + 8);
     let r = legacy_inline(lo, hi, 0);
     if overflows(r.flags) {
-        return Link::Large(legacy_place(r));
+        return Some(legacy_place(r));
     }
-    Link::Own
+    None
 }
 
-pub(crate) fn modern_link(s: &[u8], at: usize) -> Link
+#[tactic(auto, unfolding(crate::specs::Record::inline_of), using(crate::proofs::Records::link_modern, crate::proofs::Records::le_modern))]
+pub(crate) fn modern_link(s: &[u8], at: usize) -> Option<usize>
     requires { at + size_of Modern12 ≤ length s.now }
     ensures { result ≡ link_of (inline_of Modern12 0 (le_at s.now at (size_of Modern12))) }
 {
@@ -191,7 +205,7 @@ pub(crate) fn modern_link(s: &[u8], at: usize) -> Link
     let hi = word_here(s, at + 8) as u64;
     let r = modern_inline(lo, hi, 0);
     if overflows(r.flags) {
-        return Link::Large(modern_place(r));
+        return Some(modern_place(r));
     }
-    Link::Own
+    None
 }

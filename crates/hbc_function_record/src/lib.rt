@@ -2,12 +2,11 @@
 // Every call is total: a header whose bytes are not all there is read as one of zeros.
 #![tactic(auto)]
 
-ghost use Rattle.std.specs.Prelude.{◌≡◌};
+ghost use Rattle.std.specs.Prelude.{◌≡◌, ◌+◌, length, leb};
 ghost use Rattle.hbc_io.specs.Plain.{word_at};
 ghost use Rattle.hbc_function_record.specs.Record.{size_of, large_of, inline_of, large_in, flags_of, overflowed, link_of};
 ghost use Rattle.hbc_function_record.specs.declared.Layout.TheVariants.{Legacy16, Modern12};
-ghost use Rattle.hbc_function_record.specs.Row.{inline_found, row_words};
-ghost use Rattle.hbc_function_record.specs.Private.{is_there};
+ghost use Rattle.hbc_function_record.specs.Row.{inline_found, row_words, layout_of};
 
 use crate::fields::{
     legacy_flagged, legacy_here, legacy_inline, legacy_large, legacy_link, modern_flagged,
@@ -22,6 +21,27 @@ use hbc_io::LIMIT;
 pub enum Layout {
     Legacy16,
     Modern12,
+}
+
+// A number that no layout has.
+#[derive(Clone, Copy)]
+pub struct UnknownLayout {
+    pub number: u32,
+}
+
+// A layout of its number, as a row's first word and C have it.
+impl TryFrom<u32> for Layout {
+    type Error = UnknownLayout;
+
+    ghost try_from_gives = { λ n r. r ≡ layout_of n };
+
+    fn try_from(number: u32) -> Result<Layout, UnknownLayout> {
+        match number {
+            0 => Ok(Layout::Legacy16),
+            1 => Ok(Layout::Modern12),
+            _ => Err(UnknownLayout { number }),
+        }
+    }
 }
 
 // The fields in the order in which a header holds them; id is the function's number.
@@ -71,13 +91,6 @@ pub enum Record {
 pub struct Found {
     pub own: Record,
     pub place: u32,
-}
-
-// What a header is flagged for: nothing but itself, or a large one at a place.
-#[derive(Clone, Copy)]
-pub enum Link {
-    Own,
-    Large(usize),
 }
 
 pub mod bit_layout;
@@ -157,18 +170,13 @@ pub fn large_size(layout: Layout) -> usize
 
 // Whether the n bytes from `at` on are there.
 fn there(s: &[u8], at: usize, n: usize) -> bool
-    ensures { result ≡ is_there s.now at n }
+    ensures { result ≡ leb (at + n) (length s.now) }
 {
-    if s.len() < at {
-        return false;
-    }
-    if s.len() - at < n {
-        return false;
-    }
-    true
+    at <= s.len() && n <= s.len() - at
 }
 
 // The record whose fields but id are all 0.
+#[tactic(auto, unfolding(crate::specs::Record::inline_of))]
 fn zeros(layout: Layout, id: u32) -> Record
     ensures { result ≡ inline_of layout id 0 }
 {
@@ -179,6 +187,7 @@ fn zeros(layout: Layout, id: u32) -> Record
 }
 
 // The record of the inline header at `at`, of zeros where its bytes are not all there.
+#[tactic(auto, unfolding(crate::specs::Record::inline_of, hbc_io::specs::Plain::word_at))]
 pub fn inline_record(s: &[u8], layout: Layout, at: usize, id: u32) -> Record
     ensures { result ≡ inline_of layout id (word_at (size_of layout) s.now at) }
 {
@@ -192,6 +201,7 @@ pub fn inline_record(s: &[u8], layout: Layout, at: usize, id: u32) -> Record
 }
 
 // The record of the large header at `at`, likewise; and of zeros in a file of more than 2^30 bytes, whose places a record does not hold.
+#[tactic(auto, unfolding(crate::specs::Record::large_in, crate::specs::Record::large_at, hbc_io::specs::Lends::below))]
 pub fn large_record(s: &[u8], layout: Layout, at: usize, id: u32) -> Record
     ensures { result ≡ large_in s.now layout at id }
 {
@@ -207,12 +217,14 @@ pub fn large_record(s: &[u8], layout: Layout, at: usize, id: u32) -> Record
     }
 }
 
-// What the inline header at `at` is flagged for; nothing where its bytes are not all there. No more of the record is made than that.
-pub fn header_link(s: &[u8], layout: Layout, at: usize) -> Link
+// The place of the large header that the inline one at `at` is flagged for, if it is; none where its bytes are not all there. No more of the record is made
+// than that.
+#[tactic(auto, using(crate::proofs::Records::link_zeros, crate::proofs::Records::read_there))]
+pub fn header_link(s: &[u8], layout: Layout, at: usize) -> Option<usize>
     ensures { result ≡ link_of (inline_of layout 0 (word_at (size_of layout) s.now at)) }
 {
     if !there(s, at, header_size(layout)) {
-        return Link::Own;
+        return None;
     }
     match layout {
         Layout::Legacy16 => legacy_link(s, at),
@@ -221,6 +233,7 @@ pub fn header_link(s: &[u8], layout: Layout, at: usize) -> Link
 }
 
 // Whether the inline header at `at` is flagged for a large one; not where its bytes are not all there.
+#[tactic(auto, using(crate::proofs::Records::flag_zeros, crate::proofs::Records::read_there))]
 pub fn is_flagged(s: &[u8], layout: Layout, at: usize) -> bool
     ensures { result ≡ overflowed (flags_of (inline_of layout 0 (word_at (size_of layout) s.now at))) }
 {
@@ -235,6 +248,7 @@ pub fn is_flagged(s: &[u8], layout: Layout, at: usize) -> bool
 
 // The row of the inline header at `at`, its record of zeros but for layout and id where its bytes are not all there: one call for each layout,
 // with nothing of the other in it, for the loops over a table.
+#[tactic(auto, unfolding(crate::specs::Record::inline_of), using(crate::proofs::Records::le_legacy, crate::proofs::Records::read_there))]
 pub fn legacy_row(s: &[u8], at: usize, id: u32) -> [u32; WIDTH]
     ensures { result ≡ row_words (inline_found Legacy16 id (word_at (size_of Legacy16) s.now at)) }
 {
@@ -246,6 +260,7 @@ pub fn legacy_row(s: &[u8], at: usize, id: u32) -> [u32; WIDTH]
     legacy_words(legacy_inline(lo, hi, id), INLINE)
 }
 
+#[tactic(auto, unfolding(crate::specs::Record::inline_of), using(crate::proofs::Records::le_modern, crate::proofs::Records::read_there))]
 pub fn modern_row(s: &[u8], at: usize, id: u32) -> [u32; WIDTH]
     ensures { result ≡ row_words (inline_found Modern12 id (word_at (size_of Modern12) s.now at)) }
 {

@@ -5,6 +5,7 @@ ghost use Rattle.hbc_function_record.specs.Row.{found_at, row_words};
 
 use crate::{Legacy, Modern, WIDTH};
 
+#[tactic(auto, unfolding(crate::specs::Row::legacy_words, crate::specs::Row::row_words))]
 pub(crate) fn legacy_words(r: Legacy, place: u32) -> [u32; WIDTH]
     ensures { result ≡ row_words (found_at place (rec.Legacy r)) }
 {
@@ -29,6 +30,7 @@ pub(crate) fn legacy_words(r: Legacy, place: u32) -> [u32; WIDTH]
     ]
 }
 
+#[tactic(auto, unfolding(crate::specs::Row::modern_words, crate::specs::Row::row_words))]
 pub(crate) fn modern_words(r: Modern, place: u32) -> [u32; WIDTH]
     ensures { result ≡ row_words (found_at place (rec.Modern r)) }
 {

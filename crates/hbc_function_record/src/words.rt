@@ -13,6 +13,7 @@ fn wide(b: u8) -> u32
 }
 
 // The u32 at a place whose four bytes are there: with no test and no loop it is compiled to one load before its callers take it in.
+#[tactic(auto, using(hbc_bits::proofs::Laws::le_four))]
 pub(crate) fn word_here(s: &[u8], at: usize) -> u32
     requires { at + 4 ≤ length s.now }
     ensures { result ≡ le_at s.now at 4 }
@@ -24,6 +25,7 @@ pub(crate) fn word_here(s: &[u8], at: usize) -> u32
 }
 
 // A field of lo + 2^64 * hi. It lies in one word of 32 bits, and so does not cross bit 64.
+#[tactic(auto, using(hbc_bits::proofs::Laws::field_lt))]
 pub(crate) fn cut(lo: u64, hi: u64, f: Field) -> u32
     requires { Within f.0 f.1 }
     ensures { result ≡ field f.0 f.1 (lo + 2 ^ 64 * hi) }

@@ -1,30 +1,11 @@
--- The laws of shares, of sums, and of totals that are kept.
-use Prim.Native.Nat.{ℕ, zero, suc, ◌+◌, ◌-◌, ◌*◌, ◌≤◌, ◌<◌}
-use mathlib.Core.Path.{◌≡◌, refl, ap, sym, ◌∙◌}
-use mathlib.Core.List.{List}
+-- The laws of sums.
+use Prim.Native.Nat.{ℕ, zero, suc, ◌+◌, ◌*◌, ◌≤◌, ◌<◌}
+use mathlib.Core.Path.{◌≡◌, refl, ap, ◌∙◌}
 use mathlib.Core.Bool.{Bool, true, false, cond}
 use native.Mathlib.Omega.{arith}
 use native.Mathlib.Nat.{suc-mul}
 use native.Mathlib.Numerals.{add-one}
-use lib.Dec.{eqb}
-use borrow.Author.Tests.{eq-eqb, ne_eqb}
-use Rattle.hbc_rows.specs.Rows.{entry_at}
-use Rattle.hbc_function_record.specs.Row.{ROW_SIZE, ROW_LARGE_PLACE, inline}
-use Rattle.hbc_function_totals.specs.Totals.{share_of, share, large_row, size_row, sum}
-
--- ---- a row's share
-
-module _ (row : List ℕ) {size place : ℕ} (s : size ≡ entry_at row ROW_SIZE) (p : place ≡ entry_at row ROW_LARGE_PLACE) where
-  large_by : (b : Bool) → eqb (entry_at row ROW_LARGE_PLACE) inline ≡ b → share (cond b 0 1) size ≡ share_of row
-  unfolding large_row size_row
-  large_by b e =
-      ap (λ (x : Bool). share (cond x 0 1) size) (sym e) ∙ ap (share (cond (eqb (entry_at row ROW_LARGE_PLACE) inline) 0 1)) s
-
-  pub inline_share : place ≡ inline → share 0 size ≡ share_of row
-  inline_share e = large_by true (eq-eqb _ _ (sym p ∙ e))
-
-  pub large_share : (place ≡ inline → ⊥) → share 1 size ≡ share_of row
-  large_share n = large_by false (ne_eqb _ _ (λ q. n (p ∙ q)))
+use Rattle.hbc_function_totals.specs.Totals.{sum}
 
 -- ---- one number more
 

@@ -1,13 +1,11 @@
 -- docs/FORMAT.md, section 3.10: the two totals over rows of functions, and what exchanging a row for another makes of them.
 use Rattle.std.specs.Prelude.{ℕ, zero, suc, ◌+◌, ◌-◌, List, Bool, true, false, cond, eqb}
-use Rattle.hbc_io.specs.Answer.{Answer, gives, refuses, refused_at, and_then}
+use Rattle.hbc_io.specs.Answer.{Answer, gives, refused_at, and_then}
 use Rattle.hbc_io.specs.Lends.{below}
 use Rattle.hbc_rows.specs.Rows.{entry_at}
 use Rattle.hbc_function_record.specs.Row.{ROW_SIZE, ROW_LARGE_PLACE, inline}
 use Rattle.hbc_function_totals.specs.declared.Share.{Share}
 use Rattle.hbc_function_totals.specs.declared.Totals.{Totals}
-use Rattle.hbc_function_totals.specs.declared.Kept.{Kept}
-use Rattle.hbc_function_totals.specs.declared.Kept.TheVariants as kept_as
 
 -- ---- what a row adds to the totals
 
@@ -63,8 +61,3 @@ next true a f = and_then a f
 unfoldable pub kept : (ℕ → Bool) → (ℕ → Share) → (ℕ → Share) → Totals → ℕ → Answer Totals
 kept chosen old new before zero = gives before
 kept chosen old new before (suc n) = next (chosen n) (kept chosen old new before n) (λ now. exchanged n now (old n) (new n))
-
--- each case of what one exchange answers
-abbrev pub says_kept : Kept → Answer Totals
-says_kept (kept_as.Now t) = gives t
-says_kept (kept_as.Refused r) = refuses r

@@ -1,7 +1,8 @@
 -- What the loop of the check knows: rows 0 to id - 1 are right, and the plan is theirs.
-use Prim.Native.Nat.{ℕ, zero, suc, ◌+◌, ◌*◌, ◌/◌, ◌^◌, ◌≤◌, ◌<◌}
-use mathlib.Core.Path.{◌≡◌, refl, sym, ap, ◌∙◌}
+use Prim.Native.Nat.{ℕ, ◌+◌, ◌^◌, ◌≤◌, ◌<◌}
+use mathlib.Core.Path.{◌≡◌, refl, ap, ◌∙◌}
 use mathlib.Core.List.{List}
+use Rattle.std.specs.Prelude.{Option, Some, None}
 use mathlib.Core.Bool.{Bool, true, false}
 use native.Mathlib.Omega.{arith}
 use Rattle.hbc_io.specs.Answer.{Answer, gives, refused_at}
@@ -10,10 +11,8 @@ use Rattle.hbc_function_record.specs.declared.Layout.{Layout}
 use Rattle.hbc_function_record.specs.Row.{width}
 use Rattle.hbc_function_bytes.specs.Bytes.{right_row}
 use Rattle.hbc_function_write.specs.declared.Plan.{Plan}
-use Rattle.hbc_function_write.specs.declared.Looked.{Looked}
-use Rattle.hbc_function_write.specs.declared.Looked.TheVariants as looked
 use Rattle.hbc_function_write.specs.Write.{free_at, end_at, right_end, checked, right_rows}
-use Rattle.hbc_function_write.specs.Private.{Plain, far, none, first, plan_of, looked_at, next_plan}
+use Rattle.hbc_function_write.specs.Private.{Plain, far, first, plan_of, looked_at, next_plan}
 use Rattle.hbc_function_write.proofs.Places.{free_bound}
 use Rattle.hbc_function_write.proofs.Plans.{is_next, plan_inline, plan_large, plan_next, checked_more, late_row, right_rows_lem}
 
@@ -22,7 +21,7 @@ pub record Checking (rows : List ℕ) (layout : Layout) (count large table i : �
   pub right : checked 13 (λ i. right_row layout i (row_at width rows i)) i ≡ gives tt
   pub plan : p ≡ plan_of layout (row_at width rows) large table i
 
-pub checking_first : (rows : List ℕ) (layout : Layout) (count large table : ℕ) → Checking rows layout count large table 0 (record { free = large; end = table; late = none })
+pub checking_first : (rows : List ℕ) (layout : Layout) (count large table : ℕ) → Checking rows layout count large table 0 (record { free = large; end = table; late = None })
 unfolding checked plan_of free_at end_at first
 checking_first rows layout count large table = record { within = omega arith; right = refl; plan = refl }
 
@@ -42,34 +41,34 @@ module _ {rows : List ℕ} {layout : Layout} {count large table i : ℕ} {p : Pl
   pub checking_small : large ≤ far → i < 2 ^ 32 → p.free ≤ 2 ^ 60
   checking_small h l = let a = free_bound layout (row_at width rows) large i in omega (arith, free_is)
 
-  checking_next : {q : Plan} → count ≤ none → i < count → right_row layout i (row_at width rows i) ≡ true → q ≡ next_plan layout (row_at width rows i) i p
+  checking_next : {q : Plan} → i < count → right_row layout i (row_at width rows i) ≡ true → q ≡ next_plan layout (row_at width rows i) i p
       → Checking rows layout count large table (i + 1) q
-  checking_next m h r n =
+  checking_next h r n =
       record {
         within = omega arith;
         right = checked_more 13 (λ i. right_row layout i (row_at width rows i)) i v.right r;
-        plan = plan_next layout (row_at width rows) large table i (omega arith) v.plan refl n;
+        plan = plan_next layout (row_at width rows) large table i v.plan refl n;
       }
 
   -- with a row that is right and goes inline, and with any other that is right
-  pub checking_plain : {b : Bool} → count ≤ none → i < count → Plain layout i (row_at width rows i) b → b ≡ true → Checking rows layout count large table (i + 1) p
-  checking_plain m h w e = checking_next m h (w.right e) (plan_inline layout (row_at width rows i) i p (w.inline e))
+  pub checking_plain : {b : Bool} → i < count → Plain layout i (row_at width rows i) b → b ≡ true → Checking rows layout count large table (i + 1) p
+  checking_plain h w e = checking_next h (w.right e) (plan_inline layout (row_at width rows i) i p (w.inline e))
 
-  pub checking_more : {b : Bool} {r : Looked} {q : Plan} → count ≤ none → i < count → Plain layout i (row_at width rows i) b → b ≡ false → r ≡ looked.Next q
+  pub checking_more : {b : Bool} {r : Option Plan} {q : Plan} → i < count → Plain layout i (row_at width rows i) b → b ≡ false → r ≡ Some q
       → r ≡ looked_at layout (row_at width rows i) i p → Checking rows layout count large table (i + 1) q
-  checking_more m h l e f n =
+  checking_more h l e f n =
       let t = is_next layout (row_at width rows i) i p f n in
-      checking_next m h t.0 (plan_large layout (row_at width rows i) i p (l.large e t.0) t.1)
+      checking_next h t.0 (plan_large layout (row_at width rows i) i p (l.large e t.0) t.1)
 
-  module _ (m : count ≤ none) (d : i ≡ count) where
+  module _ (d : i ≡ count) where
     all_right : checked 13 (λ i. right_row layout i (row_at width rows i)) count ≡ gives tt
     all_right = rw (← d) v.right
 
-    pub checking_late : {A : Type 0} → p.late < none → (o : Answer A) → refused_at 14 p.late ≡ right_rows rows layout count large o
-    checking_late h o = late_row rows layout count large o m all_right (late_is ∙ ap (first (right_end layout (row_at width rows) large)) d) h
+    pub checking_late : {A : Type 0} {k : ℕ} → p.late ≡ Some k → (o : Answer A) → refused_at 14 k ≡ right_rows rows layout count large o
+    checking_late h o = late_row rows layout count large o all_right (late_is ∙ ap (first (right_end layout (row_at width rows) large)) d) h
 
-    pub checking_done : none ≤ p.late → gives p.end ≡ right_rows rows layout count large (gives (end_at layout (row_at width rows) large table count))
+    pub checking_done : p.late ≡ None → gives p.end ≡ right_rows rows layout count large (gives (end_at layout (row_at width rows) large table count))
     checking_done h =
         ap gives (end_is ∙ ap (end_at layout (row_at width rows) large table) d)
-        ∙ right_rows_lem rows layout count large (gives (end_at layout (row_at width rows) large table count)) m all_right
+        ∙ right_rows_lem rows layout count large (gives (end_at layout (row_at width rows) large table count)) all_right
         (late_is ∙ ap (first (right_end layout (row_at width rows) large)) d) h

@@ -1,7 +1,8 @@
 -- A place that is far off gives the same answer as one that is farther; and what the check's answer says of the call's.
-use Prim.Native.Nat.{ℕ, zero, suc, ◌+◌, ◌*◌, ◌/◌, ◌^◌, ◌≤◌, ◌<◌, min}
+use Prim.Native.Nat.{ℕ, zero, suc, ◌+◌, ◌*◌, ◌^◌, ◌≤◌, ◌<◌, min}
 use mathlib.Core.Path.{◌≡◌, refl, sym, ap, ◌∙◌}
 use mathlib.Core.List.{List}
+use Rattle.std.specs.Prelude.{Result, Ok, Err}
 use mathlib.Core.Bool.{Bool, true, false, cond}
 use mathlib.Core.Logic.{◌⊎◌, inl, inr, ⊎_elim}
 use native.Mathlib.Omega.{arith}
@@ -11,6 +12,7 @@ use borrow.Author.Tests.{ltb-true, ltb-false, ne_eqb, eqb-true}
 use Rattle.hbc_io.specs.declared.Refusal.{Refusal}
 use Rattle.hbc_io.specs.Outcome.{limit, refusal_at}
 use Rattle.hbc_io.specs.Answer.{Answer, gives, refuses, and_then}
+use Rattle.hbc_io.specs.Answers.{answered}
 use Rattle.hbc_io.proofs.Exits.{is_below, not_below}
 use Rattle.hbc_rows.specs.Rows.{row_at}
 use Rattle.hbc_function_record.specs.declared.Layout.{Layout}
@@ -18,9 +20,7 @@ use Rattle.hbc_function_record.specs.declared.Layout.TheVariants as lay
 use Rattle.hbc_function_record.specs.Record.{size_of, large_of}
 use Rattle.hbc_function_record.specs.Row.{width, ROW_INFO_OFFSET}
 use Rattle.hbc_function_bytes.specs.Bytes.{goes_inline, right_row}
-use Rattle.hbc_function_write.specs.declared.Wrote.{Wrote}
-use Rattle.hbc_function_write.specs.declared.Wrote.TheVariants as wrote
-use Rattle.hbc_function_write.specs.Write.{says_wrote, rounded, place_at, end_at, table_end, says_end, right_end, checked, follows, right_rows, fitting}
+use Rattle.hbc_function_write.specs.Write.{rounded, place_at, end_at, table_end, says_end, right_end, checked, follows, right_rows, fitting}
 use Rattle.hbc_function_write.specs.Private.{Room, Ends, Inlines, far}
 use Rattle.hbc_function_write.proofs.Places.{place_after, none_large}
 use Rattle.hbc_function_write.proofs.Plans.{checked_same, through, all_checked}
@@ -106,15 +106,15 @@ module _ {A B : Type 0} where
   two_give (gives u) (refuses y) n e o h = let z : ◌≡◌ {A = ℕ} 0 1 = cc in absurd (omega arith)
   two_give (refuses y) b n e o h = let z : ◌≡◌ {A = ℕ} 0 1 = cc in absurd (omega arith)
 
-module _ (rows : List ℕ) (layout : Layout) (count large near table n : ℕ) (v : Near layout (row_at width rows) large near table count n) (r : Wrote)
-    (a : says_wrote r ≡ right_rows rows layout count near (gives (end_at layout (row_at width rows) near table count))) where
+module _ (rows : List ℕ) (layout : Layout) (count large near table n : ℕ) (v : Near layout (row_at width rows) large near table count n) (r : Result ℕ Refusal)
+    (a : answered r ≡ right_rows rows layout count near (gives (end_at layout (row_at width rows) near table count))) where
   rows_same : {B : Type 0} (o : Answer B) → right_rows rows layout count near o ≡ right_rows rows layout count large o
   rows_same o =
       ap (λ (c : Answer (Unit {0})). follows (checked 13 (λ i. right_row layout i (row_at width rows i)) count) (follows c o))
       (checked_same 14 (right_end layout (row_at width rows) near) (right_end layout (row_at width rows) large) count v.right)
 
   -- refused: so is the call
-  pub check_refuses : {x : Refusal} (o : Answer ℕ) → r ≡ wrote.Refused x → refuses x ≡ right_rows rows layout count large o
+  pub check_refuses : {x : Refusal} (o : Answer ℕ) → r ≡ Err x → refuses x ≡ right_rows rows layout count large o
   unfolding follows
   check_refuses {x} o e =
       let h : refuses x ≡ right_rows rows layout count near (gives (end_at layout (row_at width rows) near table count)) = rw e at a in
@@ -123,7 +123,7 @@ module _ (rows : List ℕ) (layout : Layout) (count large near table n : ℕ) (v
       ∙ rows_same o
 
   -- given: the call goes on, and the end is its own where the buffer has room for it
-  pub check_gives : {end : ℕ} (o : Answer ℕ) → r ≡ wrote.To end → o ≡ right_rows rows layout count large o
+  pub check_gives : {end : ℕ} (o : Answer ℕ) → r ≡ Ok end → o ≡ right_rows rows layout count large o
   unfolding follows
   check_gives {end} o e =
       let h : gives end ≡ right_rows rows layout count near (gives (end_at layout (row_at width rows) near table count)) = rw e at a in
@@ -131,7 +131,7 @@ module _ (rows : List ℕ) (layout : Layout) (count large near table n : ℕ) (v
       (end_at layout (row_at width rows) near table count) o h).1
       ∙ rows_same o
 
-  pub check_end : {end : ℕ} → r ≡ wrote.To end → end ≡ end_at layout (row_at width rows) near table count
+  pub check_end : {end : ℕ} → r ≡ Ok end → end ≡ end_at layout (row_at width rows) near table count
   unfolding follows
   check_end {end} e =
       let h : gives end ≡ right_rows rows layout count near (gives (end_at layout (row_at width rows) near table count)) = rw e at a in
@@ -141,24 +141,24 @@ module _ (rows : List ℕ) (layout : Layout) (count large near table n : ℕ) (v
 -- ---- the ways out of the call, once the rows were looked at
 
 module _ (rows : List ℕ) (layout : Layout) (start count large : ℕ) (b : List ℕ) {size near : ℕ} (z : size ≡ size_of layout) (n : near ≡ min large far)
-    (u : (k : ℕ) → get_or rows k 0 < 2 ^ 32) (small : length b ≤ limit) (r : Wrote)
-    (a : says_wrote r ≡ right_rows rows layout count near (gives (end_at layout (row_at width rows) near (start + count * size) count))) where
+    (u : (k : ℕ) → get_or rows k 0 < 2 ^ 32) (small : length b ≤ limit) (r : Result ℕ Refusal)
+    (a : answered r ≡ right_rows rows layout count near (gives (end_at layout (row_at width rows) near (start + count * size) count))) where
   abbrev last : Answer ℕ
   last = fitting large (table_end layout start count) (end_at layout (row_at width rows) large (table_end layout start count) count) (length b)
 
   table_is : start + count * size ≡ table_end layout start count
   table_is = ap (λ (k : ℕ). start + count * k) z
 
-  own : says_wrote r ≡ right_rows rows layout count near (gives (end_at layout (row_at width rows) near (table_end layout start count) count))
+  own : answered r ≡ right_rows rows layout count near (gives (end_at layout (row_at width rows) near (table_end layout start count) count))
   own = rw table_is at a
 
   nearby : Near layout (row_at width rows) large near (table_end layout start count) count (length b)
   nearby = is_near layout (row_at width rows) large (table_end layout start count) count (length b) (λ i l. rw (row_word rows i ROW_INFO_OFFSET (lit< tt)) (u (i * width + ROW_INFO_OFFSET))) small n
 
-  pub call_refuses : {x : Refusal} → r ≡ wrote.Refused x → refuses x ≡ right_rows rows layout count large last
+  pub call_refuses : {x : Refusal} → r ≡ Err x → refuses x ≡ right_rows rows layout count large last
   call_refuses e = check_refuses rows layout count large near (table_end layout start count) (length b) nearby r own last e
 
-  module _ {end : ℕ} (e : r ≡ wrote.To end) where
+  module _ {end : ℕ} (e : r ≡ Ok end) where
     goes_on : last ≡ right_rows rows layout count large last
     goes_on = check_gives rows layout count large near (table_end layout start count) (length b) nearby r own last e
 

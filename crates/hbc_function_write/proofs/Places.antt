@@ -1,6 +1,6 @@
 -- Where headers go: none shares a byte with another, and all are within the buffer.
-use Prim.Native.Nat.{ℕ, zero, suc, ◌+◌, ◌*◌, ◌/◌, ◌≤◌, ◌<◌}
-use mathlib.Core.Path.{◌≡◌, refl, sym, ap, ◌∙◌}
+use Prim.Native.Nat.{ℕ, zero, suc, ◌+◌, ◌*◌, ◌≤◌, ◌<◌}
+use mathlib.Core.Path.{◌≡◌, refl, ◌∙◌}
 use mathlib.Core.List.{List}
 use mathlib.Core.Bool.{Bool, true, false, not, cond}
 use native.Mathlib.Nat.{le_trans, le_refl}
@@ -8,7 +8,7 @@ use native.Mathlib.Omega.{arith}
 use native.Mathlib.Decide.{le_ind}
 use lib.ListN.{get_or}
 use lib.Dec.{eqb}
-use borrow.Author.Tests.{eqb-true}
+use borrow.Author.Tests.{eqb-true, eq-eqb}
 use Rattle.hbc_bits.specs.Fields.{fit}
 use Rattle.hbc_bits.proofs.Fields.{both}
 use Rattle.hbc_function_record.specs.declared.Layout.{Layout}
@@ -17,6 +17,7 @@ use Rattle.hbc_function_record.specs.Record.{size_of, large_of, overflowed}
 use Rattle.hbc_function_record.specs.Row.{ROW_INFO_OFFSET, ROW_FLAGS}
 use Rattle.hbc_function_header.specs.Header.{header_at}
 use Rattle.hbc_function_record.specs.BitLayout.{fields_in}
+use Rattle.hbc_function_bytes.proofs.Sums.{same_test}
 use Rattle.hbc_function_bytes.specs.Bytes.{values_in, info_free, goes_inline}
 use Rattle.hbc_function_write.specs.Write.{rounded, free_at, place_at, end_at, table_end, right_end}
 use Rattle.hbc_function_write.specs.Private.{Room, Ends, Ended, Inlines}
@@ -28,11 +29,6 @@ large_small lay.Modern12 = omega arith
 pub large_some : (layout : Layout) → 31 ≤ large_of layout
 large_some lay.Legacy16 = omega arith
 large_some lay.Modern12 = omega arith
-
--- a table of as many as 32 bits can count is far below 2^40
-pub table_small : (layout : Layout) (count : ℕ) {n : ℕ} → n ≡ size_of layout → count * n ≤ count * 16
-table_small lay.Legacy16 count e = rw e (le_refl (count * 16))
-table_small lay.Modern12 count e = rw e (omega arith)
 
 -- a header before another one, and before the table's end
 pub head_before : (layout : Layout) (start i n : ℕ) → i < n → header_at layout start i + size_of layout ≤ start + n * size_of layout
@@ -156,13 +152,13 @@ module _ (w : List ℕ) where
       let b = both (not (overflowed (get_or w ROW_FLAGS 0))) a.1 in
       eqb-true (get_or w ROW_INFO_OFFSET 0) 0 (both (info_free lay.Modern12 w) b.1).0
 
-  by_info : (b : Bool) → goes_inline lay.Modern12 w ≡ b → Ended w → get_or w ROW_INFO_OFFSET 0 ≡ 0 → goes_inline lay.Modern12 w ≡ true
+  by_info : (b : Bool) → goes_inline lay.Modern12 w ≡ b → (goes_inline lay.Modern12 w ≡ false → get_or w ROW_INFO_OFFSET 0 ≡ 0 → ⊥) → get_or w ROW_INFO_OFFSET 0 ≡ 0 → goes_inline lay.Modern12 w ≡ true
   by_info true e n h = e
   by_info false e n h = absurd (n e h)
 
   -- its info_offset tells whether it goes inline
-  pub no_info : Ended w → get_or w ROW_INFO_OFFSET 0 ≡ 0 → goes_inline lay.Modern12 w ≡ true
-  no_info n h = by_info (goes_inline lay.Modern12 w) refl n h
+  pub no_info : Ended lay.Modern12 w → get_or w ROW_INFO_OFFSET 0 ≡ 0 → goes_inline lay.Modern12 w ≡ true
+  no_info n h = by_info (goes_inline lay.Modern12 w) refl (n refl) h
 
   large_by : (b : Bool) → goes_inline lay.Modern12 w ≡ b → (get_or w ROW_INFO_OFFSET 0 ≡ 0 → ⊥) → goes_inline lay.Modern12 w ≡ false
   large_by true e n = absurd (n (info_inline e))
@@ -171,9 +167,16 @@ module _ (w : List ℕ) where
   pub some_info : (get_or w ROW_INFO_OFFSET 0 ≡ 0 → ⊥) → goes_inline lay.Modern12 w ≡ false
   some_info n = large_by (goes_inline lay.Modern12 w) refl n
 
-pub is_ended : {f : ℕ → List ℕ} {large count : ℕ} → Ends lay.Modern12 f large count → (i : ℕ) → i < count → Ended (f i)
+  -- so that the info_offset tells whether it goes inline
+  pub info_tells : Ended lay.Modern12 w → eqb (get_or w ROW_INFO_OFFSET 0) 0 ≡ goes_inline lay.Modern12 w
+  info_tells n =
+      same_test (eqb (get_or w ROW_INFO_OFFSET 0) 0) (goes_inline lay.Modern12 w)
+      (λ h. no_info n (eqb-true (get_or w ROW_INFO_OFFSET 0) 0 h)) (λ h. eq-eqb (get_or w ROW_INFO_OFFSET 0) 0 (info_inline h))
+
+pub is_ended : (layout : Layout) {f : ℕ → List ℕ} {large count : ℕ} → Ends layout f large count → (i : ℕ) → i < count → Ended layout (f i)
 unfolding right_end
-is_ended {f} {large} v i h g z =
+is_ended lay.Legacy16 v i h m g z = let z : ◌≡◌ {A = Layout} lay.Legacy16 lay.Modern12 = m in absurd (cc)
+is_ended lay.Modern12 {f} {large} v i h m g z =
     let e = rw g at (v.right i h) in
     let q = eqb-true (get_or (f i) ROW_INFO_OFFSET 0) (rounded (place_at lay.Modern12 f large i + large_of lay.Modern12)) e in
     omega arith

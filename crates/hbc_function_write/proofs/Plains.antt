@@ -5,11 +5,11 @@ use mathlib.Core.List.{List, [], ◌∷◌}
 use mathlib.Core.Bool.{Bool, true, false, cond}
 use native.Mathlib.Omega.{arith}
 use native.Mathlib.Numerals.{add-one}
-use native.Mathlib.Nat.{add-zero, mod-eq_of_lt, mod-lt, suc-mul, zero-mod, zero-mul}
+use native.Mathlib.Nat.{mod-eq_of_lt, mod-lt, suc-mul, zero-mod, zero-mul}
 use lib.Bits.{bit_and, bit_or, or_add_and, and_le_l, and_le_r, and_high, and_mask, and_block, and_zero_r, or_zero_l}
 use lib.Pow.{pow_pos, shr_lt}
 use lib.Dec.{ltb, eqb, lit<}
-use lib.ListN.{length, get_or, drop, length-take, get_or-eq_default}
+use lib.ListN.{get_or, drop}
 use lib.Seq.{get_or-take, get_or-drop}
 use borrow.Author.Tests.{ltb-true, ltb-false, eqb-true, eq-eqb}
 use Rattle.hbc_bits.proofs.Fields.{both}
@@ -99,29 +99,24 @@ clear_two : (w masks : List ℕ) (k : ℕ)
 unfolding clear
 clear_two w masks k = rw (twice k, low_half masks k, high_half masks k)
 
-pub clearing_more : (rows : List ℕ) (i : ℕ) {masks : List ℕ} {k set p : ℕ} → ((j : ℕ) → get_or rows j 0 < 2 ^ 32) → Clearing (row_at width rows i) masks k set → k * 2 < record_width
-    → p ≡ paired rows (i * width + k * 2) → Clearing (row_at width rows i) masks (k + 1) (bit_or set (bit_and p (get_or masks k 0)))
+pub clearing_more : (w : List ℕ) {masks : List ℕ} {k set p : ℕ} → ((j : ℕ) → get_or w j 0 < 2 ^ 32) → Clearing w masks k set → k * 2 < record_width
+    → p ≡ paired w (k * 2) → Clearing w masks (k + 1) (bit_or set (bit_and p (get_or masks k 0)))
 unfolding paired
-clearing_more rows i {masks} {k} {set} {p} u v h e =
-    let a : get_or (row_at width rows i) (k * 2) 0 ≡ get_or rows (i * width + k * 2) 0 = row_word rows i (k * 2) (omega arith) in
-    let b : get_or (row_at width rows i) (suc (k * 2)) 0 ≡ get_or rows (i * width + k * 2 + 1) 0 =
-    row_word rows i (suc (k * 2)) (omega arith) ∙ ap (λ (j : ℕ). get_or rows j 0) (omega arith) in
+clearing_more w {masks} {k} {set} {p} u v h e =
+    let b : get_or w (suc (k * 2)) 0 ≡ get_or w (k * 2 + 1) 0 = rw add-one in
     let t : eqb (bit_and p (get_or masks k 0)) 0
-    ≡ cond (eqb (bit_and (get_or (row_at width rows i) (k * 2) 0) (get_or masks k 0 % 2 ^ 32)) 0)
-    (eqb (bit_and (get_or (row_at width rows i) (suc (k * 2)) 0) (get_or masks k 0 / 2 ^ 32)) 0) false =
-    rw (e, a, b) (pair_test (get_or rows (i * width + k * 2) 0) (get_or rows (i * width + k * 2 + 1) 0) (get_or masks k 0) (u (i * width + k * 2))) in
+    ≡ cond (eqb (bit_and (get_or w (k * 2) 0) (get_or masks k 0 % 2 ^ 32)) 0)
+    (eqb (bit_and (get_or w (suc (k * 2)) 0) (get_or masks k 0 / 2 ^ 32)) 0) false =
+    rw (e, b) (pair_test (get_or w (k * 2) 0) (get_or w (k * 2 + 1) 0) (get_or masks k 0) (u (k * 2))) in
     record {
       within = omega arith;
       tests =
           or_test set (bit_and p (get_or masks k 0))
           ∙ rw (v.tests, t)
-          (cond_cond (clear (halves masks) (row_at width rows i) (k * 2)) (eqb (bit_and (get_or (row_at width rows i) (k * 2) 0) (get_or masks k 0 % 2 ^ 32)) 0)
-          (eqb (bit_and (get_or (row_at width rows i) (suc (k * 2)) 0) (get_or masks k 0 / 2 ^ 32)) 0)
-          ∙ sym (rw (add-one k) (clear_two (row_at width rows i) masks k)));
+          (cond_cond (clear (halves masks) w (k * 2)) (eqb (bit_and (get_or w (k * 2) 0) (get_or masks k 0 % 2 ^ 32)) 0)
+          (eqb (bit_and (get_or w (suc (k * 2)) 0) (get_or masks k 0 / 2 ^ 32)) 0)
+          ∙ sym (rw (add-one k) (clear_two w masks k)));
     }
-
-pub clearing_done : {w masks : List ℕ} {k set : ℕ} → Clearing w masks k set → record_width ≤ k * 2 → eqb set 0 ≡ clear (halves masks) w record_width
-clearing_done {w} {masks} {k} v h = let l = v.within in let e : k * 2 ≡ record_width = omega arith in v.tests ∙ ap (clear (halves masks) w) e
 
 -- ---- word by word
 
@@ -359,24 +354,7 @@ not_inline false f = refl
 not_right : (layout : Layout) (i : ℕ) (w : List ℕ) → false ≡ right_row layout i w → Plain layout i w false
 not_right layout i w e = record { right = λ h. either h refl; inline = λ h. either h refl; large = λ h g. either g (sym e) }
 
-module _ (rows : List ℕ) (i : ℕ) (u : (k : ℕ) → get_or rows k 0 < 2 ^ 32) where
-  abbrev row : List ℕ
-  row = row_at width rows i
-
-  past : (k : ℕ) → length row ≤ k → get_or row k 0 < 2 ^ 32
-  past k h = rw (get_or-eq_default row 0 h) (lit< tt)
-
-  small_by : (k : ℕ) (b : Bool) → ltb k width ≡ b → get_or row k 0 < 2 ^ 32
-  unfolding row_at
-  small_by k true e = rw (row_word rows i k (ltb-true k width e)) (u (i * width + k))
-  small_by k false e = let h = ltb-false k width e in past k (simp length-take (omega arith))
-
-  small : (k : ℕ) → get_or row k 0 < 2 ^ 32
-  small k = small_by k (ltb k width) refl
-
-  first : get_or row 0 0 ≡ get_or rows (i * width) 0
-  first = rw (add-zero (i * width)) at (row_word rows i 0 (lit< tt))
-
+module _ (row : List ℕ) (i : ℕ) (small : (k : ℕ) → get_or row k 0 < 2 ^ 32) where
   pub legacy_goes : clear legacy_masks row record_width ≡ goes_inline lay.Legacy16 row
   legacy_goes = legacy_inline row small
 
@@ -400,38 +378,35 @@ module _ (rows : List ℕ) (i : ℕ) (u : (k : ℕ) → get_or rows k 0 < 2 ^ 32
   wrong_by layout true e n = let o = eqb-true (get_or row 0 0) (number_in layout) e in wrong_id layout i row o (n o)
   wrong_by layout false e n = wrong_layout layout i row (λ o. either (eq-eqb (get_or row 0 0) (number_in layout) o) e)
 
-  second : get_or row 1 0 ≡ get_or rows (i * width + 1) 0
-  second = row_word rows i 1 (lit< tt)
-
-  module _ (layout : Layout) {p : ℕ} (e : p ≡ paired rows (i * width)) where
+  module _ (layout : Layout) {p : ℕ} (e : p ≡ paired row 0) where
     pub other : (p ≡ own layout → ⊥) → Plain layout i row false
     unfolding paired
     other n =
         not_right layout i row
         (wrong_by layout (eqb (get_or row 0 0) (number_in layout)) refl
-        (λ o d. n (e ∙ rw (← first, ← second, o, d) (omega arith) ∙ sym (own_is layout))))
+        (λ o d. n (e ∙ rw (o, d) (omega arith) ∙ sym (own_is layout))))
 
     module _ (o : p ≡ own layout) where
       is_own : get_or row 0 0 ≡ number_in layout
       unfolding paired
       is_own =
           let k = number_small layout in
-          let s = u (i * width) in
-          let q : get_or rows (i * width) 0 + get_or rows (i * width + 1) 0 * 4294967296 ≡ i * 4294967296 + number_in layout = sym e ∙ o ∙ own_is layout in
-          first ∙ omega arith
+          let s = small 0 in
+          let q : get_or row 0 0 + get_or row 1 0 * 4294967296 ≡ i * 4294967296 + number_in layout = sym e ∙ o ∙ own_is layout in
+          omega arith
 
       is_number : get_or row 1 0 ≡ i
       unfolding paired
       is_number =
           let k = number_small layout in
-          let s = u (i * width) in
-          let q : get_or rows (i * width) 0 + get_or rows (i * width + 1) 0 * 4294967296 ≡ i * 4294967296 + number_in layout = sym e ∙ o ∙ own_is layout in
-          second ∙ omega arith
+          let s = small 0 in
+          let q : get_or row 0 0 + get_or row 1 0 * 4294967296 ≡ i * 4294967296 + number_in layout = sym e ∙ o ∙ own_is layout in
+          omega arith
 
       rights : {k : ℕ} → k ≡ amiss layout i row → eqb k 0 ≡ right_row layout i row
       rights d = none_amiss layout i row is_own is_number d
 
-  pub legacy_plain : {p : ℕ} {r : Bool} → p ≡ paired rows (i * width) → p ≡ own lay.Legacy16 → r ≡ clear plain_masks row record_width → Plain lay.Legacy16 i row r
+  pub legacy_plain : {p : ℕ} {r : Bool} → p ≡ paired row 0 → p ≡ own lay.Legacy16 → r ≡ clear plain_masks row record_width → Plain lay.Legacy16 i row r
   legacy_plain f o e =
       record {
         right =
@@ -447,7 +422,7 @@ module _ (rows : List ℕ) (i : ℕ) (u : (k : ℕ) → get_or rows k 0 < 2 ^ 32
             not_inline (goes_inline lay.Legacy16 row) (λ q. either (inline-plain row small i z (legacy_goes ∙ q)) (sym e ∙ h));
       }
 
-  pub modern_plain : {p : ℕ} {r : Bool} → p ≡ paired rows (i * width) → p ≡ own lay.Modern12 → r ≡ clear modern_masks row record_width → Plain lay.Modern12 i row r
+  pub modern_plain : {p : ℕ} {r : Bool} → p ≡ paired row 0 → p ≡ own lay.Modern12 → r ≡ clear modern_masks row record_width → Plain lay.Modern12 i row r
   modern_plain f o e =
       record {
         right =

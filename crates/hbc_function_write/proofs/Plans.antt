@@ -1,85 +1,56 @@
 -- The check: rows one after another, and the first that is refused.
-use Prim.Native.Nat.{ℕ, zero, suc, ◌+◌, ◌*◌, ◌-◌, ◌≤◌, ◌<◌}
-use mathlib.Core.Path.{◌≡◌, refl, sym, ap, ◌∙◌}
+use Prim.Native.Nat.{ℕ, zero, suc, ◌+◌, ◌≤◌, ◌<◌}
+use mathlib.Core.Path.{◌≡◌, refl, sym, ◌∙◌}
 use mathlib.Core.List.{List}
+use Rattle.std.specs.Prelude.{Option, Some, None}
 use mathlib.Core.Bool.{Bool, true, false, cond}
 use native.Mathlib.Omega.{arith}
 use native.Mathlib.Numerals.{add-one}
 use native.Mathlib.Decide.{le_ind}
-use lib.ListN.{length, get_or, take, drop, length-drop}
-use lib.Seq.{length-take-le}
-use lib.Dec.{ltb, eqb}
-use borrow.Author.Tests.{lt-ltb, le-ltb, ltb-true, ltb-false}
+use lib.Dec.{ltb}
+use borrow.Author.Tests.{ltb-true, ltb-false}
 use Rattle.hbc_io.specs.declared.Refusal.{Refusal}
 use Rattle.hbc_io.specs.Outcome.{refusal_at}
 use Rattle.hbc_io.specs.Answer.{Answer, gives, refuses, refused_at, and_then}
 use Rattle.hbc_io.proofs.Exits.{not_given}
-use Rattle.hbc_rows.specs.Rows.{row_at, put_row}
-use Rattle.hbc_rows.proofs.RowsAt.{row_whole}
+use Rattle.hbc_rows.specs.Rows.{row_at}
 use Rattle.hbc_function_record.specs.declared.Layout.{Layout}
-use Rattle.hbc_function_record.specs.declared.Layout.TheVariants as lay
 use Rattle.hbc_function_record.specs.Record.{large_of}
-use Rattle.hbc_function_record.specs.Row.{width, ROW_INFO_OFFSET}
+use Rattle.hbc_function_record.specs.Row.{width}
 use Rattle.hbc_function_bytes.specs.Bytes.{goes_inline, right_row}
 use Rattle.hbc_function_write.specs.declared.Plan.{Plan}
-use Rattle.hbc_function_write.specs.declared.Looked.{Looked}
-use Rattle.hbc_function_write.specs.declared.Looked.TheVariants as looked
 use Rattle.hbc_function_write.specs.Write.{rounded, free_at, place_at, end_at, says_end, right_end, checked, follows, right_rows}
-use Rattle.hbc_function_write.specs.Private.{none, first, plan_of, large_plan, looked_at, next_plan}
-
--- ---- a row, copied
-
-pub row_copied : (rows t : List ℕ) (i : ℕ) {row part : List ℕ} → i * width + width ≤ length rows → length t ≡ width
-    → part ≡ take (i * width + width - i * width) (drop (i * width) rows) → row ≡ put_row (length part) t 0 part → row ≡ row_at width rows i
-unfolding row_at
-row_copied rows t i {row} {part} h l e p =
-    let n : i * width + width - i * width ≡ width = omega arith in
-    let q : part ≡ take width (drop (i * width) rows) = rw n at e in
-    let k : width ≤ length (drop (i * width) rows) = rw length-drop (omega arith) in
-    p ∙ row_whole t part (ap length q ∙ length-take-le width (drop (i * width) rows) k ∙ sym l) ∙ q
+use Rattle.hbc_function_write.specs.Private.{earlier, first, plan_of, large_plan, looked_at, next_plan}
 
 -- ---- the plan
 
--- what a modern row must say
-pub says_modern : {layout : Layout} (w : List ℕ) (end : ℕ) {b : Bool} → layout ≡ lay.Modern12 → b ≡ eqb (get_or w ROW_INFO_OFFSET 0) end → b ≡ says_end layout w end
-says_modern w end e f = rw e f
-
-module _ (layout : Layout) (w : List ℕ) (i : ℕ) (p : Plan) {a n : ℕ} (o : a ≡ rounded p.free) (q : n ≡ large_of layout) where
-  pub late_kept : {l : ℕ} → l ≡ p.late → p.late < none → record { free = a + n; end = a + n; late = l } ≡ large_plan layout w i p
-  unfolding large_plan
-  late_kept e h = rw (e, o, q, lt-ltb p.late none h)
-
-  module _ (h : none ≤ p.late) {m : ℕ} (g : m ≡ rounded (a + n)) where
-    pub late_none : {l : ℕ} → l ≡ none → says_end layout w m ≡ true → record { free = a + n; end = a + n; late = l } ≡ large_plan layout w i p
-    unfolding large_plan
-    late_none e s = rw (e, ← q, ← o, ← g, le-ltb p.late none h, s)
-
-    pub late_here : {l : ℕ} → l ≡ i → says_end layout w m ≡ false → record { free = a + n; end = a + n; late = l } ≡ large_plan layout w i p
-    unfolding large_plan
-    late_here e s = rw (e, ← q, ← o, ← g, le-ltb p.late none h, s)
+pub with_late : (layout : Layout) (w : List ℕ) (i : ℕ) (p : Plan) {a n m : ℕ} {l : Option ℕ} → a ≡ rounded p.free → n ≡ large_of layout → m ≡ rounded (a + n)
+    → l ≡ earlier p.late (cond (says_end layout w m) None (Some i)) → record { free = a + n; end = a + n; late = l } ≡ large_plan layout w i p
+unfolding large_plan
+with_late layout w i p o q g e = rw (e, g, o, q)
 
 module _ (layout : Layout) (w : List ℕ) (i : ℕ) (p : Plan) where
-  pub looked_wrong : right_row layout i w ≡ false → looked.Wrong ≡ looked_at layout w i p
+  pub looked_wrong : right_row layout i w ≡ false → None ≡ looked_at layout w i p
   unfolding looked_at
   looked_wrong e = rw e
 
-  pub looked_next : {q : Plan} → right_row layout i w ≡ true → q ≡ large_plan layout w i p → looked.Next q ≡ looked_at layout w i p
+  pub looked_next : {q : Plan} → right_row layout i w ≡ true → q ≡ large_plan layout w i p → Some q ≡ looked_at layout w i p
   unfolding looked_at
   looked_next e f = rw (e, f)
 
-  wrong_by : (b : Bool) → looked.Wrong ≡ cond b (looked.Next (large_plan layout w i p)) looked.Wrong → b ≡ false
+  wrong_by : (b : Bool) → None ≡ cond b (Some (large_plan layout w i p)) None → b ≡ false
   wrong_by true e = let z : ◌≡◌ {A = ℕ} 0 1 = cc in absurd (omega arith)
   wrong_by false e = refl
 
-  next_is : {q : Plan} (b : Bool) → looked.Next q ≡ cond b (looked.Next (large_plan layout w i p)) looked.Wrong → (b ≡ true) × (q ≡ large_plan layout w i p)
+  next_is : {q : Plan} (b : Bool) → Some q ≡ cond b (Some (large_plan layout w i p)) None → (b ≡ true) × (q ≡ large_plan layout w i p)
   next_is true e = (refl, cc)
   next_is false e = let z : ◌≡◌ {A = ℕ} 0 1 = cc in absurd (omega arith)
 
-  pub is_wrong : {r : Looked} → r ≡ looked.Wrong → r ≡ looked_at layout w i p → right_row layout i w ≡ false
+  pub is_wrong : {r : Option Plan} → r ≡ None → r ≡ looked_at layout w i p → right_row layout i w ≡ false
   unfolding looked_at
   is_wrong f e = wrong_by (right_row layout i w) (sym f ∙ e)
 
-  pub is_next : {r : Looked} {q : Plan} → r ≡ looked.Next q → r ≡ looked_at layout w i p → (right_row layout i w ≡ true) × (q ≡ large_plan layout w i p)
+  pub is_next : {r : Option Plan} {q : Plan} → r ≡ Some q → r ≡ looked_at layout w i p → (right_row layout i w ≡ true) × (q ≡ large_plan layout w i p)
   unfolding looked_at
   is_next f e = next_is (right_row layout i w) (sym f ∙ e)
 
@@ -91,38 +62,26 @@ module _ (layout : Layout) (w : List ℕ) (i : ℕ) (p : Plan) where
   unfolding next_plan
   plan_large e h = rw e h
 
-kept : (c : Bool) (l : ℕ) → ltb l none ≡ c → (none ≤ l → l ≡ none) → l ≡ cond c l (cond true none l)
-kept true l e h = refl
-kept false l e h = h (ltb-false l none e)
-
-first_le : (p : ℕ → Bool) (n : ℕ) → n ≤ none → first p n ≤ none
-unfolding first
-first_le p zero h = omega arith
-first_le p (suc n) h = by (ltb (first p n) none) (p n) (first_le p n (omega arith))
-  where
-    by : (c d : Bool) → first p n ≤ none → cond c (first p n) (cond d none n) ≤ none
-    by true d l = l
-    by false true l = omega arith
-    by false false l = omega arith
+kept : (o : Option ℕ) → o ≡ earlier o None
+kept (Some k) = refl
+kept None = refl
 
 module _ (layout : Layout) (f : ℕ → List ℕ) (large table : ℕ) where
-  next_by : (i : ℕ) (c : Bool) → goes_inline layout (f i) ≡ c → i ≤ none → cond c (plan_of layout f large table i) (large_plan layout (f i) i (plan_of layout f large table i))
+  next_by : (i : ℕ) (c : Bool) → goes_inline layout (f i) ≡ c → cond c (plan_of layout f large table i) (large_plan layout (f i) i (plan_of layout f large table i))
       ≡ plan_of layout f large table (suc i)
   unfolding plan_of large_plan free_at end_at place_at first right_end
-  next_by i true e h =
-      let l = first_le (right_end layout f large) i h in
+  next_by i true e =
       rw e (λ j. record {
         free = free_at layout f large i;
         end = end_at layout f large table i;
-        late = kept (ltb (first (right_end layout f large) i) none) (first (right_end layout f large) i) refl (λ k. omega arith) j;
+        late = kept (first (right_end layout f large) i) j;
       })
-  next_by i false e h = rw e
+  next_by i false e = rw e
 
   -- one row more
-  pub plan_next : (i : ℕ) {p q : Plan} {w : List ℕ} → i < none → p ≡ plan_of layout f large table i → w ≡ f i → q ≡ next_plan layout w i p
-      → q ≡ plan_of layout f large table (i + 1)
+  pub plan_next : (i : ℕ) {p q : Plan} {w : List ℕ} → p ≡ plan_of layout f large table i → w ≡ f i → q ≡ next_plan layout w i p → q ≡ plan_of layout f large table (i + 1)
   unfolding next_plan
-  plan_next i h a b d = d ∙ rw (b, a, add-one i) (next_by i (goes_inline layout (f i)) refl (omega arith))
+  plan_next i a b d = d ∙ rw (b, a, add-one i) (next_by i (goes_inline layout (f i)) refl)
 
 -- ---- the first row that is refused
 
@@ -144,19 +103,22 @@ module _ (k : ℕ) (p : ℕ → Bool) where
   refused_first i n h a e =
       le_ind (λ (m : ℕ). checked k p m ≡ refused_at k i) (refused_here i a e) (λ m l q. refused_on (refusal_at k i) m q) n h
 
-  first_by : (n : ℕ) (c : Bool) → ltb (first p n) none ≡ c → n < none → checked k p n ≡ cond c (refused_at k (first p n)) (gives tt)
-      → (d : Bool) → p n ≡ d
-      → ◌≡◌ {A = Answer (Unit {0})} (and_then (checked k p n) (λ u. cond d (gives tt) (refused_at k n)))
-      (cond (ltb (cond c (first p n) (cond d none n)) none) (refused_at k (cond c (first p n) (cond d none n))) (gives tt))
-  first_by n true e h q d g = rw (q, e)
-  first_by n false e h q true g = rw q
-  first_by n false e h q false g = rw (q, lt-ltb n none h)
+  -- what is told of the first, if there is one
+  abbrev told : Option ℕ → Answer (Unit {0})
+  told (Some i) = refused_at k i
+  told None = gives tt
+
+  first_by : (n : ℕ) (o : Option ℕ) → checked k p n ≡ told o → (d : Bool)
+      → ◌≡◌ {A = Answer (Unit {0})} (and_then (checked k p n) (λ u. cond d (gives tt) (refused_at k n))) (told (earlier o (cond d None (Some n))))
+  first_by n (Some i) q d = rw q
+  first_by n None q true = rw q
+  first_by n None q false = rw q
 
   -- looked for row by row
-  pub first_checked : (n : ℕ) → n ≤ none → checked k p n ≡ cond (ltb (first p n) none) (refused_at k (first p n)) (gives tt)
+  pub first_checked : (n : ℕ) → checked k p n ≡ told (first p n)
   unfolding checked first
-  first_checked zero h = refl
-  first_checked (suc n) h = (first_by n (ltb (first p n) none) refl (omega arith) (first_checked n (omega arith)) (p n) refl)
+  first_checked zero = refl
+  first_checked (suc n) = first_by n (first p n) (first_checked n) (p n)
 
   -- a test that is the same of every row
   pub checked_same : (q : ℕ → Bool) (n : ℕ) → ((i : ℕ) → i < n → p i ≡ q i) → checked k p n ≡ checked k q n
@@ -200,13 +162,11 @@ module _ {A : Type 0} (rows : List ℕ) (layout : Layout) (count large : ℕ) (o
   unfolding follows
   wrong_row i h a e = sym (rw (refused_first 13 (λ i. right_row layout i (row_at width rows i)) i count h a e))
 
-  module _ (h : count ≤ none) (a : checked 13 (λ i. right_row layout i (row_at width rows i)) count ≡ gives tt) {l : ℕ} (e : l ≡ first (right_end layout (row_at width rows) large) count) where
-    pub late_row : l < none → refused_at 14 l ≡ right_rows rows layout count large o
+  module _ (a : checked 13 (λ i. right_row layout i (row_at width rows i)) count ≡ gives tt) {l : Option ℕ} (e : l ≡ first (right_end layout (row_at width rows) large) count) where
+    pub late_row : {i : ℕ} → l ≡ Some i → refused_at 14 i ≡ right_rows rows layout count large o
     unfolding follows
-    late_row g =
-        sym (rw (a, first_checked 14 (right_end layout (row_at width rows) large) count h, ← e, lt-ltb l none g))
+    late_row g = sym (rw (a, first_checked 14 (right_end layout (row_at width rows) large) count, ← e, g))
 
-    pub right_rows_lem : none ≤ l → o ≡ right_rows rows layout count large o
+    pub right_rows_lem : l ≡ None → o ≡ right_rows rows layout count large o
     unfolding follows
-    right_rows_lem g =
-        sym (rw (a, first_checked 14 (right_end layout (row_at width rows) large) count h, ← e, le-ltb l none g))
+    right_rows_lem g = sym (rw (a, first_checked 14 (right_end layout (row_at width rows) large) count, ← e, g))

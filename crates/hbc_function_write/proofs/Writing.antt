@@ -1,6 +1,6 @@
 -- What the loop of the writing knows: the headers of rows 0 to id - 1 are put, and the next large one goes from `free` on.
-use Prim.Native.Nat.{ℕ, zero, suc, ◌+◌, ◌*◌, ◌/◌, ◌^◌, ◌≤◌, ◌<◌}
-use mathlib.Core.Path.{◌≡◌, refl, sym, ap, ◌∙◌}
+use Prim.Native.Nat.{ℕ, ◌+◌, ◌≤◌, ◌<◌}
+use mathlib.Core.Path.{◌≡◌, refl}
 use mathlib.Core.List.{List}
 use mathlib.Core.Bool.{false}
 use native.Mathlib.Omega.{arith}
@@ -11,7 +11,7 @@ use Rattle.hbc_function_record.specs.Record.{size_of, large_of}
 use Rattle.hbc_function_record.specs.Row.{width}
 use Rattle.hbc_function_header.specs.Header.{header_at}
 use Rattle.hbc_function_bytes.specs.Bytes.{goes_inline}
-use Rattle.hbc_function_write.specs.Write.{rounded, place_at, put_headers}
+use Rattle.hbc_function_write.specs.Write.{rounded, place_at}
 use Rattle.hbc_function_write.specs.Private.{Room, PutRow}
 use Rattle.hbc_function_write.proofs.Places.{head_in, place_in}
 use Rattle.hbc_function_write.proofs.Turns.{Done, done_first, done_more}
@@ -37,6 +37,3 @@ module _ {rows : List ℕ} {layout : Layout} {start count large : ℕ} {before :
     pub writing_more : {t : List ℕ} {next : ℕ} → PutRow layout (header_at layout start i) free (row_at width rows i) s next t
         → Writing rows layout start count large before (i + 1) next t
     writing_more p = record { within = omega arith; done = done_more layout (row_at width rows) start large v.done refl refl p }
-
-  pub writing_done : i ≡ count → s ≡ put_headers layout (row_at width rows) start large count before
-  writing_done d = rw (← d) v.done.bytes

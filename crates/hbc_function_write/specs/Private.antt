@@ -1,5 +1,6 @@
 -- What only private contracts cite: no promise rests on it.
-use Rattle.std.specs.Prelude.{ℕ, zero, suc, ◌+◌, ◌*◌, ◌/◌, ◌%◌, ◌^◌, ◌≤◌, ◌<◌, ◌≡◌, List, [], ◌∷◌, Bool, true, false, cond, get_or, ltb, eqb}
+use Rattle.std.specs.Prelude.{ℕ, zero, suc, ◌+◌, ◌*◌, ◌/◌, ◌%◌, ◌^◌, ◌≤◌, ◌<◌, ◌≡◌, List, [], ◌∷◌, Bool, true, false, cond, get_or, eqb}
+use Rattle.std.specs.Prelude.{Option, Some, None}
 use Rattle.std.specs.Int.Bits.{bit_and}
 use Rattle.hbc_rows.specs.Rows.{put}
 use Rattle.hbc_function_record.specs.declared.Layout.{Layout}
@@ -8,8 +9,6 @@ use Rattle.hbc_function_record.specs.Record.{large_of}
 use Rattle.hbc_function_record.specs.Row.{ROW_INFO_OFFSET}
 use Rattle.hbc_function_bytes.specs.Bytes.{values_in, goes_inline, inline_bytes, large_bytes, pointer_to, right_row}
 use Rattle.hbc_function_write.specs.declared.Plan.{Plan}
-use Rattle.hbc_function_write.specs.declared.Looked.{Looked}
-use Rattle.hbc_function_write.specs.declared.Looked.TheVariants as looked
 use Rattle.hbc_function_write.specs.Write.{rounded, free_at, end_at, table_end, says_end, right_end}
 
 -- the large headers start after the table, and all that is written ends within n bytes
@@ -25,9 +24,9 @@ pub record Ends (layout : Layout) (f : ℕ → List ℕ) (large count : ℕ) : T
 pub record Inlines (layout : Layout) (f : ℕ → List ℕ) (count : ℕ) : Type 0 where
   pub all : (i : ℕ) → i < count → goes_inline layout (f i) ≡ true
 
--- a modern row that is not refused 14 and is large has an info_offset
-abbrev pub Ended : List ℕ → Type 0
-Ended w = goes_inline lay.Modern12 w ≡ false → get_or w ROW_INFO_OFFSET 0 ≡ 0 → ⊥
+-- a row that is not refused 14 and is large has an info_offset, in modern
+abbrev pub Ended : Layout → List ℕ → Type 0
+Ended layout w = layout ≡ lay.Modern12 → goes_inline lay.Modern12 w ≡ false → get_or w ROW_INFO_OFFSET 0 ≡ 0 → ⊥
 
 -- ---- which rows go inline
 
@@ -57,14 +56,15 @@ pub record Plain (layout : Layout) (i : ℕ) (w : List ℕ) (r : Bool) : Type 0 
 abbrev pub far : ℕ
 far = 1099511627776
 
--- no row
-abbrev pub none : ℕ
-none = 4294967295
+-- the first of two that may be there
+abbrev pub earlier : Option ℕ → Option ℕ → Option ℕ
+earlier (Some k) o = Some k
+earlier None o = o
 
 -- the first of rows 0 to n - 1 that fails a test
-unfoldable pub first : (ℕ → Bool) → ℕ → ℕ
-first p zero = none
-first p (suc n) = cond (ltb (first p n) none) (first p n) (cond (p n) none n)
+unfoldable pub first : (ℕ → Bool) → ℕ → Option ℕ
+first p zero = None
+first p (suc n) = earlier (first p n) (cond (p n) None (Some n))
 
 -- what is known after rows 0 to n - 1: from where on large headers go, the end, and the first row that does not say its own
 unfoldable pub plan_of : Layout → (ℕ → List ℕ) → ℕ → ℕ → ℕ → Plan
@@ -79,12 +79,12 @@ unfoldable pub large_plan : Layout → List ℕ → ℕ → Plan → Plan
 large_plan layout w i p = record {
   free = rounded p.free + large_of layout;
   end = rounded p.free + large_of layout;
-  late = cond (ltb p.late none) p.late (cond (says_end layout w (rounded (rounded p.free + large_of layout))) none i);
+  late = earlier p.late (cond (says_end layout w (rounded (rounded p.free + large_of layout))) None (Some i));
 }
 
--- a row i that does not go inline, of words w: right, and what is known with it, or not
-unfoldable pub looked_at : Layout → List ℕ → ℕ → Plan → Looked
-looked_at layout w i p = cond (right_row layout i w) (looked.Next (large_plan layout w i p)) looked.Wrong
+-- what is known with a row i that does not go inline, of words w, if it is right
+unfoldable pub looked_at : Layout → List ℕ → ℕ → Plan → Option Plan
+looked_at layout w i p = cond (right_row layout i w) (Some (large_plan layout w i p)) None
 
 unfoldable pub next_plan : Layout → List ℕ → ℕ → Plan → Plan
 next_plan layout w i p = cond (goes_inline layout w) p (large_plan layout w i p)

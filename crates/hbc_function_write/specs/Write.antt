@@ -1,7 +1,9 @@
 -- docs/FORMAT.md, section 3.9: what writing a table of functions answers, and what the lent buffer is afterwards. All numbers are natural ones: nothing
 -- wraps. f i is row i.
-use Rattle.std.specs.Prelude.{ℕ, zero, suc, ◌+◌, ◌*◌, ◌/◌, List, Bool, true, cond, length, get_or, eqb}
-use Rattle.hbc_io.specs.Answer.{Answer, gives, refuses, refused_at, and_then}
+use Rattle.std.specs.Prelude.{ℕ, zero, suc, ◌+◌, ◌*◌, ◌/◌, List, Bool, true, cond, length, get_or, eqb, Result}
+use Rattle.hbc_io.specs.declared.Refusal.{Refusal}
+use Rattle.hbc_io.specs.Answer.{Answer, gives, refused_at, and_then}
+use Rattle.hbc_io.specs.Answers.{answered}
 use Rattle.hbc_io.specs.Lends.{below, Lends}
 use Rattle.hbc_rows.specs.Rows.{put, row_at}
 use Rattle.hbc_function_record.specs.declared.Layout.{Layout}
@@ -10,13 +12,6 @@ use Rattle.hbc_function_record.specs.Record.{size_of, large_of}
 use Rattle.hbc_function_record.specs.Row.{width, ROW_INFO_OFFSET}
 use Rattle.hbc_function_header.specs.Header.{header_at, opened}
 use Rattle.hbc_function_bytes.specs.Bytes.{values_in, goes_inline, inline_bytes, large_bytes, pointer_to, right_row}
-use Rattle.hbc_function_write.specs.declared.Wrote.{Wrote}
-use Rattle.hbc_function_write.specs.declared.Wrote.TheVariants as wrote
-
--- each case of the answer: the end of what was written, or the refusal
-abbrev pub says_wrote : Wrote → Answer ℕ
-says_wrote (wrote.To end) = gives end
-says_wrote (wrote.Refused r) = refuses r
 
 -- ---- where things go
 
@@ -95,7 +90,7 @@ write_answer rows layout start count large b =
     opened b start (below (length rows) (count * width) (refused_at 11 0) (right_rows rows layout count large
     (fitting large (table_end layout start count) (end_at layout (row_at width rows) large (table_end layout start count) count) (length b))))
 
--- what a write promises: the answer, and what the lent buffer has become
-abbrev pub WriteFunctions : List ℕ → Layout → ℕ → ℕ → ℕ → List ℕ → Wrote → List ℕ → Type 0
+-- what a write promises: the answer, which is the end of what was written or the refusal, and what the lent buffer has become
+abbrev pub WriteFunctions : List ℕ → Layout → ℕ → ℕ → ℕ → List ℕ → Result ℕ Refusal → List ℕ → Type 0
 WriteFunctions rows layout start count large before =
-    Lends says_wrote (write_answer rows layout start count large before) (put_headers layout (row_at width rows) start large count before) before
+    Lends answered (write_answer rows layout start count large before) (put_headers layout (row_at width rows) start large count before) before

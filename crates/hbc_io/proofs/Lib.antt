@@ -1,5 +1,4 @@
 pub mod Reading
-pub mod Signs
 pub mod Plains
 pub mod Aligns
 pub mod Alone

@@ -1,59 +1,46 @@
--- docs/FORMAT.md, section 2.2: what each case of an answer of src/ says: the value, or the refusal, and the cursor.
-use Rattle.std.specs.Prelude.{ℕ, ℤ, Float}
-use Rattle.hbc_io.specs.Outcome.{Outcome, got, refused}
-use Rattle.hbc_io.specs.declared.ReadU8.{ReadU8}
-use Rattle.hbc_io.specs.declared.ReadU8.TheVariants as u8
-use Rattle.hbc_io.specs.declared.ReadU16.{ReadU16}
-use Rattle.hbc_io.specs.declared.ReadU16.TheVariants as u16
-use Rattle.hbc_io.specs.declared.ReadU32.{ReadU32}
-use Rattle.hbc_io.specs.declared.ReadU32.TheVariants as u32
-use Rattle.hbc_io.specs.declared.ReadU64.{ReadU64}
-use Rattle.hbc_io.specs.declared.ReadU64.TheVariants as u64
-use Rattle.hbc_io.specs.declared.ReadI8.{ReadI8}
-use Rattle.hbc_io.specs.declared.ReadI8.TheVariants as i8
-use Rattle.hbc_io.specs.declared.ReadI32.{ReadI32}
-use Rattle.hbc_io.specs.declared.ReadI32.TheVariants as i32
-use Rattle.hbc_io.specs.declared.ReadF64.{ReadF64}
-use Rattle.hbc_io.specs.declared.ReadF64.TheVariants as f64
-use Rattle.hbc_io.specs.declared.Span.{Span}
-use Rattle.hbc_io.specs.declared.ReadSpan.{ReadSpan}
-use Rattle.hbc_io.specs.declared.ReadSpan.TheVariants as span
-use Rattle.hbc_io.specs.declared.Moved.{Moved}
-use Rattle.hbc_io.specs.declared.Moved.TheVariants as moved
+-- docs/FORMAT.md, section 2.2: what an answer of src/ says, whatever the type of its value: the value, or the refusal, and the cursor.
+use Rattle.std.specs.Prelude.{ℕ, Result, Ok, Err}
+use Rattle.hbc_io.specs.Answer.{Answer, gives, refuses}
+use Rattle.hbc_io.specs.Outcome.{Outcome, got, refused, refusal}
+use Rattle.hbc_io.specs.declared.Cursor.{Cursor}
+use Rattle.hbc_io.specs.declared.Reason.{Reason}
+use Rattle.hbc_io.specs.declared.Reason.TheVariants as reason
+use Rattle.hbc_io.specs.declared.Refusal.{Refusal}
+use Rattle.hbc_io.specs.declared.Stopped.{Stopped}
 
-abbrev pub says_u8 : ReadU8 → Outcome ℕ
-says_u8 (u8.Got v n) = got v n
-says_u8 (u8.Refused r n) = refused r n
+-- the numbers of section 1.1
+abbrev pub number_of : Reason → ℕ
+number_of reason.TooLong = 1
+number_of reason.PastEnd = 2
+number_of reason.Cut = 3
+number_of reason.TooFewRows = 4
+number_of reason.Leb128TooLong = 5
+number_of reason.ZeroAlignment = 6
+number_of reason.SeriesPastEnd = 7
+number_of reason.NoOverflowPair = 8
+number_of reason.NoZero = 9
+number_of reason.BadSpan = 10
+number_of reason.TooFewToRead = 11
+number_of reason.NoSuchLayout = 12
+number_of reason.BadRow = 13
+number_of reason.BadInfoOffset = 14
+number_of reason.LargeBeforeEnd = 15
+number_of reason.BadTotals = 16
 
-abbrev pub says_u16 : ReadU16 → Outcome ℕ
-says_u16 (u16.Got v n) = got v n
-says_u16 (u16.Refused r n) = refused r n
-
-abbrev pub says_u32 : ReadU32 → Outcome ℕ
-says_u32 (u32.Got v n) = got v n
-says_u32 (u32.Refused r n) = refused r n
-
-abbrev pub says_u64 : ReadU64 → Outcome ℕ
-says_u64 (u64.Got v n) = got v n
-says_u64 (u64.Refused r n) = refused r n
-
-abbrev pub says_i8 : ReadI8 → Outcome ℤ
-says_i8 (i8.Got v n) = got v n
-says_i8 (i8.Refused r n) = refused r n
-
-abbrev pub says_i32 : ReadI32 → Outcome ℤ
-says_i32 (i32.Got v n) = got v n
-says_i32 (i32.Refused r n) = refused r n
-
-abbrev pub says_f64 : ReadF64 → Outcome Float
-says_f64 (f64.Got v n) = got v n
-says_f64 (f64.Refused r n) = refused r n
-
-abbrev pub says_span : ReadSpan → Outcome Span
-says_span (span.Got v n) = got v n
-says_span (span.Refused r n) = refused r n
+abbrev pub says : {A : Type 0} → Result (A × Cursor) Stopped → Outcome A
+says (Ok (v, n)) = got v n
+says (Err e) = refused e.refusal e.cursor
 
 -- a move has no value but the cursor
-abbrev pub says_moved : Moved → Outcome (Unit {0})
-says_moved (moved.To n) = got tt n
-says_moved (moved.Refused r n) = refused r n
+abbrev pub says_moved : Result Cursor Stopped → Outcome (Unit {0})
+says_moved (Ok n) = got tt n
+says_moved (Err e) = refused e.refusal e.cursor
+
+-- what a call with no cursor answers
+abbrev pub answered : {A : Type 0} → Result A Refusal → Answer A
+answered (Ok v) = gives v
+answered (Err r) = refuses r
+
+-- a refusal of this layer, and the cursor that it leaves
+abbrev pub stopped_at : ℕ → Cursor → Stopped
+stopped_at k c = record { refusal = refusal k; cursor = c }

@@ -7,9 +7,9 @@ ghost use Rattle.std.specs.Prelude.{◌≡◌, ◌+◌, ◌-◌, ◌≤◌, ◌<
 ghost use Rattle.std.specs.Float.Ieee.{of_bits};
 ghost use Rattle.std.specs.Float.{binary64};
 ghost use Rattle.hbc_bits.specs.Bits.{le_at};
-ghost use Rattle.hbc_io.specs.Outcome.{refusal_at, cursor_at, left, valued, twos};
-ghost use Rattle.hbc_io.specs.Plain.{plain_at, word_at, seek_to, align_to, bytes_at, IsPart};
-ghost use Rattle.hbc_io.specs.Answers.{says_u8, says_u16, says_u32, says_u64, says_i8, says_i32, says_f64, says_moved, says_span};
+ghost use Rattle.hbc_io.specs.Outcome.{got, refusal_at, cursor_at, left, valued, twos};
+ghost use Rattle.hbc_io.specs.Plain.{started, needing, plain_at, word_at, seek_to, align_to, bytes_at, IsPart};
+ghost use Rattle.hbc_io.specs.Answers.{number_of, says, says_moved, stopped_at};
 
 // The longest input that is read, in bytes.
 pub const LIMIT: usize = 1073741824;
@@ -20,6 +20,43 @@ pub struct Cursor {
     pub at: usize,
 }
 
+// Why a call is refused, by the numbers of the table of refusals (docs/FORMAT.md, section 1.1), which C is told.
+#[derive(Clone, Copy)]
+pub enum Reason {
+    // More than 2^30 bytes are lent.
+    TooLong = 1,
+    // The cursor or a start stands past the end, or a seek or align goes past it.
+    PastEnd = 2,
+    // A read needs bytes past the end.
+    Cut = 3,
+    // A lent table has too few rows, or a lent buffer too few bytes.
+    TooFewRows = 4,
+    // The tenth byte of a LEB128 number has bit 7 set.
+    Leb128TooLong = 5,
+    // An alignment of 0.
+    ZeroAlignment = 6,
+    // A series begins at or past the end, and is not empty.
+    SeriesPastEnd = 7,
+    // A string needs an overflow pair that is not there.
+    NoOverflowPair = 8,
+    // A zero-ended string has no zero.
+    NoZero = 9,
+    // A span is reversed, or goes past the end.
+    BadSpan = 10,
+    // Fewer rows are lent to be read than the count or the number of the row needs.
+    TooFewToRead = 11,
+    // A layout that there is not.
+    NoSuchLayout = 12,
+    // A row to be written says what no header of its layout can.
+    BadRow = 13,
+    // A modern row's info_offset is not the end of its large header, rounded up to 4.
+    BadInfoOffset = 14,
+    // The place for large headers is before the table's end.
+    LargeBeforeEnd = 15,
+    // A total falls below 0 by what is taken out, or is above 2^63 - 1.
+    BadTotals = 16,
+}
+
 // A number of the refusal table, and the place it was met at.
 #[derive(Clone, Copy)]
 pub struct Refusal {
@@ -27,59 +64,26 @@ pub struct Refusal {
     pub place: u32,
 }
 
-// What is told of an item that could not be read whole, though some of its numbers were.
+// Why a call at a cursor was refused, and the cursor as it is left.
 #[derive(Clone, Copy)]
-pub struct Failed {
+pub struct Stopped {
     pub refusal: Refusal,
+    pub cursor: Cursor,
 }
 
-#[derive(Clone, Copy)]
-pub enum ReadU8 {
-    Got(u8, Cursor),
-    Refused(Refusal, Cursor),
+impl From<Stopped> for Refusal {
+    ghost from_gives = { λ s r. r ≡ s.refusal };
+
+    fn from(s: Stopped) -> Refusal {
+        s.refusal
+    }
 }
 
-#[derive(Clone, Copy)]
-pub enum ReadU16 {
-    Got(u16, Cursor),
-    Refused(Refusal, Cursor),
-}
+// What a read answers: the value, and the cursor after it.
+pub type Read<T> = Result<(T, Cursor), Stopped>;
 
-#[derive(Clone, Copy)]
-pub enum ReadU32 {
-    Got(u32, Cursor),
-    Refused(Refusal, Cursor),
-}
-
-#[derive(Clone, Copy)]
-pub enum ReadU64 {
-    Got(u64, Cursor),
-    Refused(Refusal, Cursor),
-}
-
-#[derive(Clone, Copy)]
-pub enum ReadI8 {
-    Got(i8, Cursor),
-    Refused(Refusal, Cursor),
-}
-
-#[derive(Clone, Copy)]
-pub enum ReadI32 {
-    Got(i32, Cursor),
-    Refused(Refusal, Cursor),
-}
-
-#[derive(Clone, Copy)]
-pub enum ReadF64 {
-    Got(f64, Cursor),
-    Refused(Refusal, Cursor),
-}
-
-#[derive(Clone, Copy)]
-pub enum Moved {
-    To(Cursor),
-    Refused(Refusal, Cursor),
-}
+// And a move, which has no value but the cursor.
+pub type Moved = Result<Cursor, Stopped>;
 
 // A part of the input: where it starts, and how many bytes it has.
 #[derive(Clone, Copy)]
@@ -88,16 +92,20 @@ pub struct Span {
     pub len: usize,
 }
 
-#[derive(Clone, Copy)]
-pub enum ReadSpan {
-    Got(Span, Cursor),
-    Refused(Refusal, Cursor),
-}
-
 pub fn refuse(number: u32, place: u32) -> Refusal
     ensures { result ≡ refusal_at number place }
 {
     Refusal { number, place }
+}
+
+// A refusal of this layer, "else 0", and the cursor that it leaves.
+pub fn stop(reason: Reason, cursor: Cursor) -> Stopped
+    ensures { result ≡ stopped_at (number_of reason) cursor }
+{
+    Stopped {
+        refusal: refuse(reason as u32, 0),
+        cursor,
+    }
 }
 
 // The cursor at the input's first byte.
@@ -121,72 +129,67 @@ pub fn remaining(s: &[u8], c: Cursor) -> usize
     if at < s.len() { s.len() - at } else { 0 }
 }
 
-fn wide(b: u8) -> u64
-    ensures { result ≡ b }
-{
-    b as u64
-}
-
-// The number of the `width` bytes from `at`, the least first.
+// The number of the `width` bytes from `at`, the least first. That a width is at most 8 is asked here and in two more: a type of widths would be no plainer.
 fn gather(s: &[u8], at: usize, width: usize) -> u64
     requires { (width ≤ 8) × (at + width ≤ length s.now) }
     ensures { result ≡ le_at s.now at width }
 {
     let mut v: u64 = 0;
-    let mut k = width;
-    while 0 < k {
-        k -= 1;
-        v = v * 256 + wide(s[at + k]);
+    for k in (0..width).rev() {
+        v = v * 256 + s[at + k] as u64;
     }
     v
 }
 
-fn number(s: &[u8], c: Cursor, width: usize) -> ReadU64
-    requires { width ≤ 8 }
-    ensures { says_u64 result ≡ plain_at width s.now c }
+// The cursor after the next `n` bytes, if they are there.
+fn past(s: &[u8], c: Cursor, n: usize) -> Moved
+    ensures { says_moved result ≡ started s.now c (needing n s.now c (got tt (cursor_at (c.at + n)))) }
 {
     let at = c.at;
     if LIMIT < s.len() {
-        return ReadU64::Refused(refuse(1, 0), c);
+        return Err(stop(Reason::TooLong, c));
     }
     if s.len() < at {
-        return ReadU64::Refused(refuse(2, 0), c);
+        return Err(stop(Reason::PastEnd, c));
     }
-    if s.len() - at < width {
-        return ReadU64::Refused(refuse(3, 0), c);
+    if s.len() - at < n {
+        return Err(stop(Reason::Cut, c));
     }
-    ReadU64::Got(gather(s, at, width), Cursor { at: at + width })
+    Ok(Cursor { at: at + n })
 }
 
-pub fn read_u8(s: &[u8], c: Cursor) -> ReadU8
-    ensures { says_u8 result ≡ plain_at 1 s.now c }
+#[tactic(auto, unfolding(crate::specs::Plain::plain_at))]
+fn number(s: &[u8], c: Cursor, width: usize) -> Read<u64>
+    requires { width ≤ 8 }
+    ensures { says result ≡ plain_at width s.now c }
 {
-    match number(s, c, 1) {
-        ReadU64::Got(v, next) => ReadU8::Got(v as u8, next),
-        ReadU64::Refused(r, stays) => ReadU8::Refused(r, stays),
-    }
+    let next = past(s, c, width)?;
+    Ok((gather(s, c.at, width), next))
 }
 
-pub fn read_u16(s: &[u8], c: Cursor) -> ReadU16
-    ensures { says_u16 result ≡ plain_at 2 s.now c }
+pub fn read_u8(s: &[u8], c: Cursor) -> Read<u8>
+    ensures { says result ≡ plain_at 1 s.now c }
 {
-    match number(s, c, 2) {
-        ReadU64::Got(v, next) => ReadU16::Got(v as u16, next),
-        ReadU64::Refused(r, stays) => ReadU16::Refused(r, stays),
-    }
+    let (v, next) = number(s, c, 1)?;
+    Ok((v as u8, next))
 }
 
-pub fn read_u32(s: &[u8], c: Cursor) -> ReadU32
-    ensures { says_u32 result ≡ plain_at 4 s.now c }
+pub fn read_u16(s: &[u8], c: Cursor) -> Read<u16>
+    ensures { says result ≡ plain_at 2 s.now c }
 {
-    match number(s, c, 4) {
-        ReadU64::Got(v, next) => ReadU32::Got(v as u32, next),
-        ReadU64::Refused(r, stays) => ReadU32::Refused(r, stays),
-    }
+    let (v, next) = number(s, c, 2)?;
+    Ok((v as u16, next))
 }
 
-pub fn read_u64(s: &[u8], c: Cursor) -> ReadU64
-    ensures { says_u64 result ≡ plain_at 8 s.now c }
+pub fn read_u32(s: &[u8], c: Cursor) -> Read<u32>
+    ensures { says result ≡ plain_at 4 s.now c }
+{
+    let (v, next) = number(s, c, 4)?;
+    Ok((v as u32, next))
+}
+
+pub fn read_u64(s: &[u8], c: Cursor) -> Read<u64>
+    ensures { says result ≡ plain_at 8 s.now c }
 {
     number(s, c, 8)
 }
@@ -261,85 +264,73 @@ pub fn float_of(v: u64) -> f64
     }
 }
 
-pub fn read_i8(s: &[u8], c: Cursor) -> ReadI8
-    ensures { says_i8 result ≡ valued (twos 8) (plain_at 1 s.now c) }
+pub fn read_i8(s: &[u8], c: Cursor) -> Read<i8>
+    ensures { says result ≡ valued (twos 8) (plain_at 1 s.now c) }
 {
-    match read_u8(s, c) {
-        ReadU8::Got(v, next) => ReadI8::Got(signed8(v), next),
-        ReadU8::Refused(r, stays) => ReadI8::Refused(r, stays),
-    }
+    let (v, next) = read_u8(s, c)?;
+    Ok((signed8(v), next))
 }
 
-pub fn read_i32(s: &[u8], c: Cursor) -> ReadI32
-    ensures { says_i32 result ≡ valued (twos 32) (plain_at 4 s.now c) }
+pub fn read_i32(s: &[u8], c: Cursor) -> Read<i32>
+    ensures { says result ≡ valued (twos 32) (plain_at 4 s.now c) }
 {
-    match read_u32(s, c) {
-        ReadU32::Got(v, next) => ReadI32::Got(signed32(v), next),
-        ReadU32::Refused(r, stays) => ReadI32::Refused(r, stays),
-    }
+    let (v, next) = read_u32(s, c)?;
+    Ok((signed32(v), next))
 }
 
-pub fn read_f64(s: &[u8], c: Cursor) -> ReadF64
-    ensures { says_f64 result ≡ valued (of_bits binary64) (plain_at 8 s.now c) }
+pub fn read_f64(s: &[u8], c: Cursor) -> Read<f64>
+    ensures { says result ≡ valued (of_bits binary64) (plain_at 8 s.now c) }
 {
-    match read_u64(s, c) {
-        ReadU64::Got(v, next) => ReadF64::Got(float_of(v), next),
-        ReadU64::Refused(r, stays) => ReadF64::Refused(r, stays),
-    }
+    let (v, next) = read_u64(s, c)?;
+    Ok((float_of(v), next))
 }
 
+#[tactic(auto, unfolding(crate::specs::Plain::seek_to))]
 pub fn seek(s: &[u8], c: Cursor, to: usize) -> Moved
     ensures { says_moved result ≡ seek_to s.now c to }
 {
     if LIMIT < s.len() {
-        return Moved::Refused(refuse(1, 0), c);
+        return Err(stop(Reason::TooLong, c));
     }
     if s.len() < to {
-        return Moved::Refused(refuse(2, 0), c);
+        return Err(stop(Reason::PastEnd, c));
     }
-    Moved::To(Cursor { at: to })
+    Ok(Cursor { at: to })
 }
 
+#[tactic(auto, unfolding(crate::specs::Plain::align_to))]
 pub fn align(s: &[u8], c: Cursor, alignment: usize) -> Moved
     ensures { says_moved result ≡ align_to s.now c alignment }
 {
     let at = c.at;
     if LIMIT < s.len() {
-        return Moved::Refused(refuse(1, 0), c);
+        return Err(stop(Reason::TooLong, c));
     }
     if alignment == 0 {
-        return Moved::Refused(refuse(6, 0), c);
+        return Err(stop(Reason::ZeroAlignment, c));
     }
     if s.len() < at {
-        return Moved::Refused(refuse(2, 0), c);
+        return Err(stop(Reason::PastEnd, c));
     }
     let over = at % alignment;
     if over == 0 {
-        return Moved::To(c);
+        return Ok(c);
     }
     if s.len() - at < alignment - over {
-        return Moved::Refused(refuse(2, 0), c);
+        return Err(stop(Reason::PastEnd, c));
     }
-    Moved::To(Cursor {
+    Ok(Cursor {
         at: at + (alignment - over),
     })
 }
 
 // The next `len` bytes, as a span.
-pub fn read_bytes(s: &[u8], c: Cursor, len: usize) -> ReadSpan
-    ensures { says_span result ≡ bytes_at len s.now c }
+#[tactic(auto, unfolding(crate::specs::Plain::bytes_at))]
+pub fn read_bytes(s: &[u8], c: Cursor, len: usize) -> Read<Span>
+    ensures { says result ≡ bytes_at len s.now c }
 {
-    let at = c.at;
-    if LIMIT < s.len() {
-        return ReadSpan::Refused(refuse(1, 0), c);
-    }
-    if s.len() < at {
-        return ReadSpan::Refused(refuse(2, 0), c);
-    }
-    if s.len() - at < len {
-        return ReadSpan::Refused(refuse(3, 0), c);
-    }
-    ReadSpan::Got(Span { start: at, len }, Cursor { at: at + len })
+    let next = past(s, c, len)?;
+    Ok((Span { start: c.at, len }, next))
 }
 
 // The part of the input that a span names; where it leaves the input, its empty beginning.

@@ -3,12 +3,11 @@ use mathlib.Core.Path.{◌≡◌, refl, ap}
 use mathlib.Core.Bool.{true, false}
 use Prim.Native.Nat.{ℕ, suc, ◌-◌, ◌^◌, ◌<◌}
 use native.Mathlib.Omega.{arith}
-use lib.Dec.{T}
 use borrow.Author.Tests.{leb-false, le-ltb}
 use lib.IntN.{ℤ, pos, negsuc, nat_abs, ◌-ℤ◌}
-use lib.Signed.{le_z, non_neg}
+use lib.Signed.{le_z}
 use mir.Syntax.{w64}
-use mir.Val.{SFits, Fits, to_z, of_z}
+use mir.Val.{SFits, to_z, of_z}
 use mir.ValLaws.{to_z_pos, to_z-of_z}
 use Rattle.hbc_io_leb.specs.Signed.{bits_of}
 use Rattle.hbc_io_leb.proofs.Signed.{bits_pos, bits_neg}
@@ -43,15 +42,9 @@ minus_one : (n : ℕ) → negsuc 0 -ℤ negsuc n ≡ pos n
 minus_one n = rw (le-ltb (suc n) 1 (omega arith)) (ap pos (omega arith))
 
 module _ (y : ℤ) (n : ℕ) (e : y ≡ pos n) (h : n < 2 ^ 63) where
-  pub up_casts : T (non_neg y) × Fits w64 (nat_abs y)
-  up_casts = rw e (tt, record { fits = omega arith })
-
   pub up_is : nat_abs y ≡ n
   up_is = rw e
 
 module _ (y : ℤ) (n : ℕ) (e : y ≡ negsuc n) (h : n < 2 ^ 63) where
-  pub down_fits : SFits w64 (negsuc 0 -ℤ y)
-  down_fits = rw (e, minus_one n) (record { sfits = h })
-
   pub turned : to_z w64 (of_z w64 (negsuc 0 -ℤ y)) ≡ pos n
   turned = rw (e, minus_one n) (to_z_pos w64 n h)

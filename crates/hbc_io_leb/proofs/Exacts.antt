@@ -4,9 +4,8 @@ use mathlib.Core.List.{List}
 use mathlib.Core.Bool.{true}
 use Prim.Native.Nat.{ℕ, ◌-◌, ◌≤◌, ◌<◌}
 use native.Mathlib.Omega.{arith}
-use borrow.Author.Tests.{lt-ltb, le-ltb, eq-eqb, ne_eqb}
+use borrow.Author.Tests.{lt-ltb, le-ltb}
 use lib.ListN.{length, get_or, get_or-eq_default}
-use lib.Dec.{leb, eqb}
 use Rattle.hbc_io_leb.specs.Leb.{tenth, exact_unsigned, exact_signed}
 use Rattle.hbc_io_leb.specs.Private.{last_of, exact_u, exact_s}
 use Rattle.hbc_io_leb.proofs.Slebs.{by_le}
@@ -16,17 +15,8 @@ module _ (count last : ℕ) where
   pub few_u : count < 10 → true ≡ exact_u count last
   few_u h = rw (lt-ltb count 10 h)
 
-  pub ten_u : 10 ≤ count → leb last 1 ≡ exact_u count last
-  ten_u h = rw (le-ltb count 10 h)
-
   pub few_s : count < 10 → true ≡ exact_s count last
   few_s h = rw (lt-ltb count 10 h)
-
-  pub zero_s : 10 ≤ count → last ≡ 0 → true ≡ exact_s count last
-  zero_s h e = rw (le-ltb count 10 h, eq-eqb last 0 e)
-
-  pub ten_s : 10 ≤ count → (last ≡ 0 → ⊥) → eqb last 127 ≡ exact_s count last
-  ten_s h d = rw (le-ltb count 10 h, ne_eqb last 0 d)
 
 module _ (bs : List ℕ) (few : length bs ≤ 10) where
   last_is : 10 ≤ length bs → last_of bs ≡ tenth bs

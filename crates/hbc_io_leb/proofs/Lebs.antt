@@ -7,14 +7,14 @@ use Prim.Native.Nat.{ℕ, zero, suc, ◌+◌, ◌-◌, ◌*◌, ◌%◌, ◌^◌
 use native.Mathlib.Omega.{arith}
 use native.Mathlib.Nat.{mul-suc, mul_left_comm, mod-eq_of_lt}
 use native.Mathlib.Numerals.{add-one}
-use borrow.Author.Tests.{lt-ltb, le-ltb, le-leb, lt-leb, ltb-true, ltb-false, leb-false}
-use lib.ListN.{length, get_or, take, drop, drop_of_length-le, length-drop}
+use borrow.Author.Tests.{lt-ltb, le-ltb, lt-leb, ltb-true, ltb-false, leb-false}
+use lib.ListN.{length, get_or, take, drop, length-drop}
 use lib.Seq.{drop-cons, get_or-take, get_or-drop, length-take-le, take-length}
 use lib.Pow.{pow-add, pow_pos, pow_mono}
 use lib.Bits.{bit_or}
 use Rattle.hbc_io_leb.specs.Leb.{going, groups, leb_bytes}
 use Rattle.hbc_io_leb.specs.Private.{groups_of, last_of}
-use Rattle.hbc_io.specs.Outcome.{got, refused, valued, cursor_at, refusal, limit}
+use Rattle.hbc_io.specs.Outcome.{got, valued, cursor_at, refusal, limit}
 use Rattle.hbc_io.specs.declared.Cursor.{Cursor}
 use Rattle.hbc_io.proofs.Reading.{past_test}
 use Rattle.hbc_bits.proofs.Laws.{or_parts}
@@ -49,9 +49,6 @@ going_on s at h g = rw (drop-cons s at 0 h, le-ltb (get_or s at 0) 128 g)
 pub going_off : (s : List ℕ) (at : ℕ) → at < length s → get_or s at 0 < 128 → going (drop at s) ≡ 0
 going_off s at h g = rw (drop-cons s at 0 h, lt-ltb (get_or s at 0) 128 g)
 
-pub going_end : (s : List ℕ) (at : ℕ) → length s ≤ at → going (drop at s) ≡ 0
-going_end s at h = rw (drop_of_length-le s h)
-
 -- the byte after them does not go on
 pub going_stops : (l : List ℕ) → going l < length l → get_or l (going l) 0 < 128
 going_stops [] h = absurd (omega arith)
@@ -78,16 +75,6 @@ turn_groups s at k v g h l e f =
     let r : k < length (drop at s) = rw (length-drop at s) (omega arith) in
     rw (q, f, or_parts 64 (7 * k) (get_or s (at + k) 0 % 128) x (omega arith) b, groups_more (drop at s) k r, get_or-drop at s k 0)
 
--- the first byte, where another follows it
-pub first_going : (s : List ℕ) (at : ℕ) → at < length s → 128 ≤ get_or s at 0 → going (drop at s) ≡ 1 + going (drop (at + 1) s)
-first_going s at h g = rw (add-one at) (omega (arith, going_on s at h g))
-
-pub first_group : (s : List ℕ) (at : ℕ) {v : ℕ} → at < length s → v ≡ get_or s at 0 % 128 → v ≡ groups (take 1 (drop at s)) % 2 ^ 64
-first_group s at {v} h e =
-    let g : groups (take 1 (drop at s)) ≡ v = rw (drop-cons s at 0 h) (omega arith) in
-    let m : v % 2 ^ 64 ≡ v = mod-eq_of_lt (omega arith) in
-    sym (ap (λ (n : ℕ). n % 2 ^ 64) g ∙ m)
-
 pub part_long : (s : List ℕ) (at k : ℕ) → at + k < length s → k + 1 ≡ length (take (suc k) (drop at s))
 part_long s at k h = rw (length-take-le (suc k) (drop at s) (rw (length-drop at s) (omega arith))) (omega arith)
 
@@ -99,14 +86,6 @@ part_last s at k h =
 
 -- ---- how a number ends
 module _ (s : List ℕ) (c : Cursor) (short : length s ≤ limit) (inside : c.at ≤ length s) where
-  pub leb_long : 10 ≤ going (drop c.at s) → leb_bytes s c ≡ refused (refusal 5) (cursor_at (c.at + 10))
-  unfolding leb_bytes
-  leb_long h = simp (le-ltb _ _ short, le-ltb _ _ inside, le-leb _ _ h)
-
-  pub leb_cut : (k : ℕ) → going (drop c.at s) ≡ k → k < 10 → length s ≤ c.at + k → leb_bytes s c ≡ refused (refusal 3) (cursor_at (length s))
-  unfolding leb_bytes
-  leb_cut k e h l = simp (e, le-ltb _ _ short, le-ltb _ _ inside, lt-leb _ _ h, le-leb _ _ l)
-
   pub leb_whole : (k : ℕ) → going (drop c.at s) ≡ k → k < 10 → c.at + k < length s
       → leb_bytes s c ≡ got (take (suc k) (drop c.at s)) (cursor_at (c.at + suc k))
   unfolding leb_bytes

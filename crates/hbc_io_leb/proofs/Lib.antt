@@ -2,7 +2,6 @@ pub mod Lebs
 pub mod Slebs
 pub mod Exacts
 pub mod Numbers
-pub mod Alone
 pub mod Bits
 pub mod Signed
 pub mod Moves

@@ -6,10 +6,9 @@ use Prim.Native.Nat.{ℕ, ◌+◌, ◌*◌, ◌^◌, ◌≤◌, ◌<◌}
 use native.Mathlib.Omega.{arith}
 use lib.IntN.{ℤ}
 use lib.ListN.{length}
-use Rattle.hbc_io.specs.Outcome.{Outcome, got, refused, valued, cursor_at}
+use Rattle.hbc_io.specs.Outcome.{Outcome, got, valued, cursor_at}
 use Rattle.hbc_io.specs.declared.Cursor.{Cursor}
-use Rattle.hbc_io.specs.declared.Refusal.{Refusal}
-use Rattle.hbc_io.proofs.Reading.{valued_got, valued_refused}
+use Rattle.hbc_io.proofs.Reading.{valued_got}
 use Rattle.hbc_io_leb.specs.Leb.{groups, leb_bytes, unsigned_of, signed_of, exact_unsigned, exact_signed}
 use Rattle.hbc_io_leb.specs.Private.{First, groups_of, signed_bits, exact_u, exact_s}
 use Rattle.hbc_io_leb.specs.Answers.{uleb_of, sleb_of}
@@ -19,11 +18,6 @@ use Rattle.hbc_io_leb.specs.declared.Sleb.{Sleb}
 use Rattle.hbc_io_leb.proofs.Lebs.{groups_of_lt, leb_one, leb_got}
 use Rattle.hbc_io_leb.proofs.Slebs.{signed_law}
 use Rattle.hbc_io_leb.proofs.Exacts.{exact_u_lem, exact_s_lem}
-
--- a refusal is that of the bytes, whatever is made of them
-pub not_read : {B : Type 0} (f : List ℕ → B) (s : List ℕ) (c : Cursor) {r : Refusal} {n : Cursor} → valued groups_of (leb_bytes s c) ≡ refused r n
-    → valued f (leb_bytes s c) ≡ refused r n
-not_read f s c {r} {n} e = ap (valued f) (valued_refused groups_of (leb_bytes s c) r n e)
 
 -- a first byte that is a whole number
 pub one_read : (s : List ℕ) (c : Cursor) {r b : ℕ} → First s c.at r → r < 128 → b ≡ r

@@ -84,12 +84,6 @@ set p v z l h =
     let d : (v - p) / p ≡ 0 = div-eq_of_lt (omega arith) in
     ap (λ (x : ℕ). x / p) e ∙ add-mul-div_left (v - p) 1 z ∙ ap (λ (x : ℕ). x + 1) d
 
-pub sign_le : (n v : ℕ) → 1 ≤ n → v < 2 ^ (7 * n) → v / 2 ^ (7 * n - 1) ≤ 1
-sign_le n v a h =
-    by_le (2 ^ (7 * n - 1)) v
-    (λ l. rw (set (2 ^ (7 * n - 1)) v (pow_pos (7 * n - 1)) l (omega (arith, half n a))) (omega arith))
-    (λ l. rw (clear (2 ^ (7 * n - 1)) v l) (omega arith))
-
 -- the bits above are the sign's, for fewer than ten groups
 pub sign_law : (n v : ℕ) → 1 ≤ n → n < 10 → v < 2 ^ (7 * n)
     → twos 64 (bit_or v ((v / 2 ^ (7 * n - 1) * 18446744073709551615 * 2 ^ (7 * n)) % 2 ^ 64)) ≡ signed_bits v n

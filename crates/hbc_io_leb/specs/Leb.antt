@@ -1,6 +1,6 @@
 -- docs/FORMAT.md, section 2.3: LEB128 numbers as DWARF 5, section 7.6, has them, and what the reader makes of them: at most ten bytes, and
 -- 64 bits of the value.
-use Rattle.std.specs.Prelude.{ℕ, suc, ◌+◌, ◌-◌, ◌*◌, ◌%◌, ◌^◌, List, [], ◌∷◌, Bool, true, cond, length, get_or, take, drop, ℤ, ltb, leb, eqb}
+use Rattle.std.specs.Prelude.{ℕ, suc, ◌+◌, ◌*◌, ◌%◌, ◌^◌, List, [], ◌∷◌, Bool, true, cond, length, get_or, take, drop, ℤ, ltb, leb, eqb}
 use Rattle.hbc_io.specs.Outcome.{Outcome, got, refused, cursor_at, refusal, twos, low_bits}
 use Rattle.hbc_io.specs.Plain.{started}
 use Rattle.hbc_io.specs.declared.Cursor.{Cursor}

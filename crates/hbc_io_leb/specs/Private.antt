@@ -1,21 +1,15 @@
 -- What only private contracts cite: no promise rests on it. The middle step of both reads: the low 64 bits of the groups, how many
 -- there were, and the last of their bytes.
 use Rattle.std.specs.Prelude.{◌≡◌, List, Bool, true, cond, ℕ, ◌-◌, ◌*◌, ◌≤◌, ◌<◌, ℤ, length, get_or, ltb, leb, eqb}
-use Rattle.hbc_io.specs.Outcome.{Outcome, got, refused, twos, limit}
+use Rattle.hbc_io.specs.Outcome.{twos, limit}
 use Rattle.hbc_io_leb.specs.Leb.{unsigned_of}
 use Rattle.hbc_io_leb.specs.declared.Groups.{Groups}
-use Rattle.hbc_io_leb.specs.declared.ReadGroups.{ReadGroups}
-use Rattle.hbc_io_leb.specs.declared.ReadGroups.TheVariants as grps
 
 abbrev pub last_of : List ℕ → ℕ
 last_of bs = get_or bs (length bs - 1) 0
 
 abbrev pub groups_of : List ℕ → Groups
 groups_of bs = record { bits = unsigned_of bs; count = length bs; last = last_of bs }
-
-abbrev pub says_groups : ReadGroups → Outcome Groups
-says_groups (grps.Got v n) = got v n
-says_groups (grps.Refused r n) = refused r n
 
 -- ten groups fill the 64 bits, fewer carry their sign in their highest bit
 abbrev pub signed_bits : ℕ → ℕ → ℤ

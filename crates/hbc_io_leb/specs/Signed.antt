@@ -1,13 +1,11 @@
 -- docs/FORMAT.md, section 2.3: signed LEB128 numbers: tests of one, and the 64 bits that hold it.
 use Rattle.std.specs.Prelude.{ℕ, List, Bool, false, ℤ, pos, negsuc, ltb, leb}
-use Rattle.hbc_io.specs.Outcome.{Outcome, got, refused, valued, low_bits}
+use Rattle.hbc_io.specs.Outcome.{Outcome, valued, low_bits}
 use Rattle.hbc_io.specs.declared.Cursor.{Cursor}
 use Rattle.hbc_io_leb.specs.Leb.{leb_bytes}
 use Rattle.hbc_io_leb.specs.Answers.{sleb_of}
 use Rattle.hbc_io_leb.specs.declared.Sleb.{Sleb}
 use Rattle.hbc_io_leb.specs.declared.Held.{Held}
-use Rattle.hbc_io_leb.specs.declared.ReadHeld.{ReadHeld}
-use Rattle.hbc_io_leb.specs.declared.ReadHeld.TheVariants as held
 
 -- the signed number at a cursor
 unfoldable pub sleb_at : List ℕ → Cursor → Outcome Sleb
@@ -37,7 +35,3 @@ bits_of z = low_bits 64 z
 
 abbrev pub held_of : Sleb → Held
 held_of v = record { bits = bits_of v.value; exact = v.exact }
-
-abbrev pub says_held : ReadHeld → Outcome Held
-says_held (held.Got v n) = got v n
-says_held (held.Refused r n) = refused r n

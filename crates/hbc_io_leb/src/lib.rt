@@ -1,14 +1,15 @@
 // LEB128 numbers, after io.rs: groups of seven bits, the least first, at most ten of them.
 #![tactic(auto)]
 
-ghost use Rattle.std.specs.Prelude.{◌≡◌, ◌*◌, ◌^◌, ◌≤◌, ◌<◌, min, length, get_or};
+ghost use Rattle.std.specs.Prelude.{◌≡◌, ◌*◌, ◌^◌, ◌≤◌, ◌<◌, length, get_or};
+ghost use Rattle.hbc_io.specs.Answers.{says};
 ghost use Rattle.hbc_io.specs.Outcome.{valued, twos, limit};
 ghost use Rattle.hbc_io_leb.specs.Leb.{leb_bytes};
-ghost use Rattle.hbc_io_leb.specs.Private.{First, groups_of, says_groups, signed_bits, exact_u, exact_s};
-ghost use Rattle.hbc_io_leb.specs.Answers.{uleb_of, sleb_of, says_uleb, says_sleb};
-ghost use Rattle.hbc_io_leb.specs.Signed.{sleb_at, bits_of, held_of, says_held};
+ghost use Rattle.hbc_io_leb.specs.Private.{First, groups_of, signed_bits, exact_u, exact_s};
+ghost use Rattle.hbc_io_leb.specs.Answers.{uleb_of, sleb_of};
+ghost use Rattle.hbc_io_leb.specs.Signed.{sleb_at, bits_of, held_of};
 
-use hbc_io::{Cursor, LIMIT, Refusal, refuse};
+use hbc_io::{Cursor, LIMIT, Read, Reason, stop};
 
 // What an unsigned number's bytes say, and whether no bit of it was lost.
 #[derive(Clone, Copy)]
@@ -24,29 +25,11 @@ pub struct Sleb {
     pub exact: bool,
 }
 
-#[derive(Clone, Copy)]
-pub enum ReadUleb {
-    Got(Uleb, Cursor),
-    Refused(Refusal, Cursor),
-}
-
-#[derive(Clone, Copy)]
-pub enum ReadSleb {
-    Got(Sleb, Cursor),
-    Refused(Refusal, Cursor),
-}
-
 // The same with the number as the 64 bits that hold it, so that every test on one is a test of unsigned numbers.
 #[derive(Clone, Copy)]
 pub struct Held {
     pub bits: u64,
     pub exact: bool,
-}
-
-#[derive(Clone, Copy)]
-pub enum ReadHeld {
-    Got(Held, Cursor),
-    Refused(Refusal, Cursor),
 }
 
 // The low 64 bits of the groups, how many there were, and the last of their bytes.
@@ -55,24 +38,6 @@ pub struct Groups {
     pub bits: u64,
     pub count: usize,
     pub last: u8,
-}
-
-#[derive(Clone, Copy)]
-pub enum ReadGroups {
-    Got(Groups, Cursor),
-    Refused(Refusal, Cursor),
-}
-
-fn wide(b: u8) -> u64
-    ensures { result ≡ b }
-{
-    b as u64
-}
-
-fn at_most_ten(n: usize) -> usize
-    ensures { result ≡ min 10 n }
-{
-    if n < 10 { n } else { 10 }
 }
 
 // The byte at a place, 128 where there is none to be read: below 128 it is a whole number.
@@ -87,42 +52,39 @@ fn first_at(s: &[u8], at: usize) -> u8
 
 // More bytes than one: one is most numbers, and each read has it before this, with no mark to be made. One bound for the loop, so that it stays small
 // enough to be inlined in both reads.
-fn read_groups(s: &[u8], c: Cursor) -> ReadGroups
+#[tactic(auto, unfolding(crate::specs::Leb::leb_bytes))]
+fn read_groups(s: &[u8], c: Cursor) -> Read<Groups>
     requires { length s.now ≤ limit → c.at < length s.now → 128 ≤ get_or s.now c.at 0 }
-    ensures { says_groups result ≡ valued groups_of (leb_bytes s.now c) }
+    ensures { says result ≡ valued groups_of (leb_bytes s.now c) }
 {
     let at = c.at;
     if LIMIT < s.len() {
-        return ReadGroups::Refused(refuse(1, 0), c);
+        return Err(stop(Reason::TooLong, c));
     }
     if s.len() < at {
-        return ReadGroups::Refused(refuse(2, 0), c);
+        return Err(stop(Reason::PastEnd, c));
     }
-    let most = at_most_ten(s.len() - at);
+    let most = (s.len() - at).min(10);
     if most < 1 {
-        return ReadGroups::Refused(refuse(3, 0), c);
+        return Err(stop(Reason::Cut, c));
     }
-    let mut v: u64 = wide(s[at] % 128);
-    let mut k: usize = 1;
-    while k < most {
+    let mut v: u64 = (s[at] % 128) as u64;
+    for k in 1..most {
         let b = s[at + k];
-        v |= wide(b % 128) << (7 * k as u64);
+        v |= ((b % 128) as u64) << (7 * k as u64);
         if b < 128 {
-            return ReadGroups::Got(
-                Groups {
-                    bits: v,
-                    count: k + 1,
-                    last: b,
-                },
-                Cursor { at: at + k + 1 },
-            );
+            let groups = Groups {
+                bits: v,
+                count: k + 1,
+                last: b,
+            };
+            return Ok((groups, Cursor { at: at + k + 1 }));
         }
-        k += 1;
     }
     if most < 10 {
-        return ReadGroups::Refused(refuse(3, 0), Cursor { at: s.len() });
+        return Err(stop(Reason::Cut, Cursor { at: s.len() }));
     }
-    ReadGroups::Refused(refuse(5, 0), Cursor { at: at + 10 })
+    Err(stop(Reason::Leb128TooLong, Cursor { at: at + 10 }))
 }
 
 // Bits are lost from a tenth byte alone: of an unsigned number, all but one.
@@ -145,30 +107,24 @@ fn exact_signed(count: usize, last: u8) -> bool
     last == 0x7F
 }
 
-pub fn read_uleb128(s: &[u8], c: Cursor) -> ReadUleb
-    ensures { says_uleb result ≡ valued uleb_of (leb_bytes s.now c) }
+pub fn read_uleb128(s: &[u8], c: Cursor) -> Read<Uleb>
+    ensures { says result ≡ valued uleb_of (leb_bytes s.now c) }
 {
     let at = c.at;
     let first = first_at(s, at);
     if first < 128 {
-        return ReadUleb::Got(
-            Uleb {
-                value: wide(first),
-                exact: true,
-            },
-            Cursor { at: at + 1 },
-        );
+        let one = Uleb {
+            value: first as u64,
+            exact: true,
+        };
+        return Ok((one, Cursor { at: at + 1 }));
     }
-    match read_groups(s, c) {
-        ReadGroups::Got(g, next) => ReadUleb::Got(
-            Uleb {
-                value: g.bits,
-                exact: exact_unsigned(g.count, g.last),
-            },
-            next,
-        ),
-        ReadGroups::Refused(r, left) => ReadUleb::Refused(r, left),
-    }
+    let (g, next) = read_groups(s, c)?;
+    let number = Uleb {
+        value: g.bits,
+        exact: exact_unsigned(g.count, g.last),
+    };
+    Ok((number, next))
 }
 
 // The number that 64 bits stand for in two's complement.
@@ -196,34 +152,24 @@ fn extended(bits: u64, count: usize) -> i64
     signed64(bits | ((sign * 0xFFFF_FFFF_FFFF_FFFF) << shift))
 }
 
-pub fn read_sleb128(s: &[u8], c: Cursor) -> ReadSleb
-    ensures { says_sleb result ≡ valued sleb_of (leb_bytes s.now c) }
+pub fn read_sleb128(s: &[u8], c: Cursor) -> Read<Sleb>
+    ensures { says result ≡ valued sleb_of (leb_bytes s.now c) }
 {
     let at = c.at;
     let first = first_at(s, at);
     if first < 128 {
-        return ReadSleb::Got(
-            Sleb {
-                value: extended(wide(first), 1),
-                exact: true,
-            },
-            Cursor { at: at + 1 },
-        );
+        let one = Sleb {
+            value: extended(first as u64, 1),
+            exact: true,
+        };
+        return Ok((one, Cursor { at: at + 1 }));
     }
-    match read_groups(s, c) {
-        ReadGroups::Got(g, next) => {
-            let bits = g.bits;
-            let count = g.count;
-            ReadSleb::Got(
-                Sleb {
-                    value: extended(bits, count),
-                    exact: exact_signed(count, g.last),
-                },
-                next,
-            )
-        }
-        ReadGroups::Refused(r, left) => ReadSleb::Refused(r, left),
-    }
+    let (g, next) = read_groups(s, c)?;
+    let number = Sleb {
+        value: extended(g.bits, g.count),
+        exact: exact_signed(g.count, g.last),
+    };
+    Ok((number, next))
 }
 
 fn bits_of(v: i64) -> u64
@@ -236,17 +182,14 @@ fn bits_of(v: i64) -> u64
     }
 }
 
-pub fn read_sleb128_bits(s: &[u8], c: Cursor) -> ReadHeld
-    ensures { says_held result ≡ valued held_of (sleb_at s.now c) }
+#[tactic(auto, unfolding(crate::specs::Signed::sleb_at))]
+pub fn read_sleb128_bits(s: &[u8], c: Cursor) -> Read<Held>
+    ensures { says result ≡ valued held_of (sleb_at s.now c) }
 {
-    match read_sleb128(s, c) {
-        ReadSleb::Refused(r, left) => ReadHeld::Refused(r, left),
-        ReadSleb::Got(v, next) => ReadHeld::Got(
-            Held {
-                bits: bits_of(v.value),
-                exact: v.exact,
-            },
-            next,
-        ),
-    }
+    let (v, next) = read_sleb128(s, c)?;
+    let held = Held {
+        bits: bits_of(v.value),
+        exact: v.exact,
+    };
+    Ok((held, next))
 }

@@ -1,14 +1,11 @@
 -- How far the bytes before the first zero go, and how a string ends.
 use mathlib.Core.Path.{◌≡◌, refl, sym, ap, ◌∙◌}
 use mathlib.Core.List.{List}
-use Prim.Native.Nat.{ℕ, suc, ◌+◌, ◌-◌, ◌≤◌, ◌<◌}
+use Prim.Native.Nat.{ℕ, ◌+◌, ◌≤◌, ◌<◌}
 use native.Mathlib.Omega.{arith}
-use native.Mathlib.Numerals.{add-one}
-use borrow.Author.Tests.{le-ltb, le-leb, lt-leb, eq-eqb, ne_eqb}
-use lib.ListN.{length, get_or, drop, drop_of_length-le}
-use lib.Seq.{drop-cons}
-use Rattle.hbc_io.specs.Outcome.{Outcome, got, refused, valued, and_then, cursor_at, refusal, limit}
-use Rattle.hbc_io.specs.Plain.{span_of, bytes_at}
+use lib.ListN.{length}
+use Rattle.hbc_io.specs.Outcome.{Outcome, got, refused, valued, and_then}
+use Rattle.hbc_io.specs.Plain.{bytes_at}
 use Rattle.hbc_io.specs.declared.Cursor.{Cursor}
 use Rattle.hbc_io.specs.declared.Refusal.{Refusal}
 use Rattle.hbc_io.specs.declared.Span.{Span}
@@ -18,29 +15,8 @@ use Rattle.hbc_io_leb.specs.Leb.{leb_bytes, exact_unsigned}
 use Rattle.hbc_io_leb.specs.Answers.{uleb_of}
 use Rattle.hbc_io_leb.specs.declared.Uleb.{Uleb}
 use Rattle.hbc_io_leb.proofs.Lebs.{leb_got}
-use Rattle.hbc_io_strings.specs.Strings.{before0, zero_ended, prefixed, string_of, marked_at}
+use Rattle.hbc_io_strings.specs.Strings.{prefixed, string_of, marked_at}
 use Rattle.hbc_io_strings.specs.declared.Prefixed.{Prefixed}
-
-pub text_on : (s : List ℕ) (at i : ℕ) → at ≤ i → i < length s → (get_or s i 0 ≡ 0 → ⊥) → before0 (drop at s) ≡ (i - at) + before0 (drop i s)
-    → before0 (drop at s) ≡ (i + 1 - at) + before0 (drop (i + 1) s)
-text_on s at i l h g e =
-    let p : before0 (drop i s) ≡ suc (before0 (drop (suc i) s)) = rw (drop-cons s i 0 h, ne_eqb (get_or s i 0) 0 g) in
-    rw (add-one i) (omega arith)
-
-pub text_off : (s : List ℕ) (i : ℕ) → i < length s → get_or s i 0 ≡ 0 → before0 (drop i s) ≡ 0
-text_off s i h g = rw (drop-cons s i 0 h, eq-eqb (get_or s i 0) 0 g)
-
-pub text_end : (s : List ℕ) (i : ℕ) → length s ≤ i → before0 (drop i s) ≡ 0
-text_end s i h = rw (drop_of_length-le s h)
-
-module _ (s : List ℕ) (c : Cursor) (short : length s ≤ limit) (inside : c.at ≤ length s) where
-  pub zero_found : (k : ℕ) → before0 (drop c.at s) ≡ k → c.at + k < length s → zero_ended s c ≡ got (span_of c.at k) (cursor_at (c.at + k + 1))
-  unfolding zero_ended
-  zero_found k e h = simp (e, le-ltb _ _ short, le-ltb _ _ inside, lt-leb _ _ h)
-
-  pub zero_none : (k : ℕ) → before0 (drop c.at s) ≡ k → length s ≤ c.at + k → zero_ended s c ≡ refused (refusal 9) (cursor_at (length s))
-  unfolding zero_ended
-  zero_none k e h = simp (e, le-ltb _ _ short, le-ltb _ _ inside, le-leb _ _ h)
 
 module _ (s : List ℕ) (c : Cursor) where
   pub prefix_got : {u : Uleb} {n : Cursor} → valued uleb_of (leb_bytes s c) ≡ got u n → {o : Outcome Span} → bytes_at u.value s n ≡ o

@@ -8,8 +8,6 @@ use Rattle.hbc_io_leb.specs.Leb.{leb_bytes}
 use Rattle.hbc_io_leb.specs.Answers.{uleb_of}
 use Rattle.hbc_io_leb.specs.declared.Uleb.{Uleb}
 use Rattle.hbc_io_strings.specs.declared.Prefixed.{Prefixed}
-use Rattle.hbc_io_strings.specs.declared.ReadPrefixed.{ReadPrefixed}
-use Rattle.hbc_io_strings.specs.declared.ReadPrefixed.TheVariants as string
 
 -- how many bytes stand before the first zero
 abbrev pub before0 : List ℕ → ℕ
@@ -34,7 +32,3 @@ string_of u p = record { span = p; exact = u.exact }
 -- the same string with that mark
 unfoldable pub marked_at : List ℕ → Cursor → Outcome Prefixed
 marked_at s c = and_then (valued uleb_of (leb_bytes s c)) (λ u n. valued (string_of u) (bytes_at u.value s n))
-
-abbrev pub says_prefixed : ReadPrefixed → Outcome Prefixed
-says_prefixed (string.Got v n) = got v n
-says_prefixed (string.Refused r n) = refused r n

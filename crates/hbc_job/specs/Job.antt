@@ -2,20 +2,13 @@
 -- and what a listing of it answers.
 use Rattle.std.specs.Prelude.{ℕ, ◌+◌, ◌*◌, ◌-◌, List, Bool, false, cond, length, drop, eqb}
 use Rattle.hbc_io.specs.Outcome.{limit}
-use Rattle.hbc_io.specs.Answer.{Answer, gives, refuses, refused_at, and_then}
+use Rattle.hbc_io.specs.Answer.{Answer, gives, refused_at, and_then}
 use Rattle.hbc_io.specs.Lends.{below}
 use Rattle.hbc_io.specs.Plain.{word_at}
 use Rattle.hbc_function_record.specs.declared.Layout.TheVariants.{Legacy16, Modern12}
 use Rattle.hbc_function_record.specs.Row.{width}
 use Rattle.hbc_function.specs.Table.{read_answer}
 use Rattle.hbc_job.specs.declared.Parts.{Parts}
-use Rattle.hbc_job.specs.declared.Job.{Job}
-use Rattle.hbc_job.specs.declared.Job.TheVariants as job
-
--- what each case of the answer says
-abbrev pub says_job : Job → Answer Parts
-says_job (job.Of p) = gives p
-says_job (job.Refused r) = refuses r
 
 -- where the file starts: after three heads, 1 + 4 + 4 bytes, and its own head
 abbrev pub FILE : ℕ

@@ -2,10 +2,12 @@
 #![tactic(auto)]
 
 ghost use Rattle.std.specs.Prelude.{◌≡◌, ◌^◌, ◌<◌};
-ghost use Rattle.hbc_job.specs.Job.{tagged, malformed, says_job, job_of};
+ghost use Rattle.hbc_io.specs.Answer.{refuses};
+ghost use Rattle.hbc_io.specs.Answers.{answered};
+ghost use Rattle.hbc_job.specs.Job.{tagged, malformed, job_of};
 
 use hbc_function_record::Layout;
-use hbc_io::{LIMIT, Refusal, refuse, u8_at, u16_at, u32_at};
+use hbc_io::{LIMIT, Reason, Refusal, refuse, u8_at, u16_at, u32_at};
 
 // Where the file of a job starts: after three heads, 1 + 4 + 4 bytes, and its own head.
 pub const FILE: usize = 21;
@@ -20,69 +22,57 @@ pub struct Parts {
 // How many functions are listed at most.
 pub const LISTED: usize = 512;
 
-#[derive(Clone, Copy)]
-pub enum Job {
-    Of(Parts),
-    Refused(Refusal),
-}
-
 pub mod show;
 
 // Whether the field at a place has this tag and so many bytes.
+#[tactic(auto, unfolding(crate::specs::Job::tagged))]
 fn is_tagged(s: &[u8], at: usize, tag: u8, len: usize) -> bool
     requires { at < 2 ^ 63 }
     ensures { result ≡ tagged s.now at tag len }
 {
-    if u8_at(s, at) == tag {
-        return u16_at(s, at + 1) as usize == len;
-    }
-    false
+    u8_at(s, at) == tag && u16_at(s, at + 1) as usize == len
 }
 
-fn malformed() -> Job
-    ensures { says_job result ≡ malformed }
+// Whatever is wrong with a job, it has one number.
+fn malformed() -> Refusal
+    ensures { refuses result ≡ malformed }
 {
-    Job::Refused(refuse(12, 0))
+    refuse(Reason::NoSuchLayout as u32, 0)
 }
 
 // The job that s holds.
-pub fn parse_job(s: &[u8]) -> Job
-    ensures { says_job result ≡ job_of s.now }
+#[tactic(auto, unfolding(crate::specs::Job::job_of, hbc_io::specs::Lends::below))]
+pub fn parse_job(s: &[u8]) -> Result<Parts, Refusal>
+    ensures { answered result ≡ job_of s.now }
 {
     if LIMIT < s.len() {
-        return malformed();
+        return Err(malformed());
     }
     if s.len() < FILE {
-        return malformed();
+        return Err(malformed());
     }
     if !is_tagged(s, 0, 1, 1) {
-        return malformed();
+        return Err(malformed());
     }
     if !is_tagged(s, 4, 2, 4) {
-        return malformed();
+        return Err(malformed());
     }
     if !is_tagged(s, 11, 3, 4) {
-        return malformed();
+        return Err(malformed());
     }
     if !is_tagged(s, 18, 4, s.len() - FILE) {
-        return malformed();
+        return Err(malformed());
     }
     let start = u32_at(s, 7);
     let count = u32_at(s, 14);
-    let layout = u8_at(s, 3);
-    if layout == 0 {
-        return Job::Of(Parts {
-            layout: Layout::Legacy16,
-            start,
-            count,
-        });
-    }
-    if layout == 1 {
-        return Job::Of(Parts {
-            layout: Layout::Modern12,
-            start,
-            count,
-        });
-    }
-    malformed()
+    let layout = match u8_at(s, 3) {
+        0 => Layout::Legacy16,
+        1 => Layout::Modern12,
+        _ => return Err(malformed()),
+    };
+    Ok(Parts {
+        layout,
+        start,
+        count,
+    })
 }

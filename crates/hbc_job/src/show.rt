@@ -1,9 +1,9 @@
 // The lines of a listing, on standard output: one for each function, or one alone for a refusal. What is written no contract can say.
 ghost use Rattle.std.specs.Prelude.{◌≡◌};
-ghost use Rattle.hbc_job.specs.Job.{says_job, listed_of, listing};
+ghost use Rattle.hbc_io.specs.Answers.{answered};
+ghost use Rattle.hbc_job.specs.Job.{listing};
 
-use crate::{FILE, Job, LISTED, Parts, parse_job};
-use hbc_function_header::Reading;
+use crate::{FILE, LISTED, Parts, parse_job};
 use hbc_function_record::{
     Layout, ROW_FLAGS, ROW_FRAME_SIZE, ROW_INFO_OFFSET, ROW_NAME, ROW_OFFSET, ROW_SIZE, WIDTH,
 };
@@ -21,12 +21,8 @@ fn refused(out: &mut Out, r: Refusal) {
 
 fn heading(out: &mut Out, layout: Layout, count: u32) {
     match layout {
-        Layout::Legacy16 => {
-            out.write_all(b"layout legacy16 functions ");
-        }
-        Layout::Modern12 => {
-            out.write_all(b"layout modern12 functions ");
-        }
+        Layout::Legacy16 => out.write_all(b"layout legacy16 functions "),
+        Layout::Modern12 => out.write_all(b"layout modern12 functions "),
     }
     out.print_decimal(count as u64);
     out.write_all(b"\n");
@@ -52,54 +48,44 @@ fn row(out: &mut Out, rows: &[u32], id: u32) -> bool {
 }
 
 fn rows_of(out: &mut Out, rows: &[u32], count: u32) {
-    let mut id: u32 = 0;
-    while id < count {
+    for id in 0..count {
         if !row(out, rows, id) {
             return;
         }
-        id += 1;
     }
 }
 
-fn list_file(out: &mut Out, file: &[u8], job: Parts) -> Job
-    ensures { says_job result ≡ listed_of file.now job }
+// The lines of the functions, or the refusal, of which there is no line yet.
+fn list_functions(out: &mut Out, s: &[u8]) -> Result<Parts, Refusal>
+    ensures { answered result ≡ listing s.now }
 {
-    let layout = job.layout;
-    let count = job.count;
+    let job = parse_job(s)?;
+    let file = &s[FILE..];
     let mut rows = [0u32; LISTED * WIDTH];
     // No line shows them.
     let mut large: u64 = 0;
     let mut sizes: u64 = 0;
-    match hbc_function::read_functions(
+    hbc_function::read_functions(
         file,
-        layout,
+        job.layout,
         job.start as usize,
-        count,
+        job.count,
         &mut rows,
         &mut large,
         &mut sizes,
-    ) {
-        Reading::Read => {
-            heading(out, layout, count);
-            rows_of(out, &rows, count);
-            Job::Of(job)
-        }
-        Reading::Refused(r) => {
-            refused(out, r);
-            Job::Refused(r)
-        }
-    }
+    )?;
+    heading(out, job.layout, job.count);
+    rows_of(out, &rows, job.count);
+    Ok(job)
 }
 
 // Lists a job's functions, at most LISTED of them, and answers the job, or the refusal that is shown.
-pub fn list(out: &mut Out, s: &[u8]) -> Job
-    ensures { says_job result ≡ listing s.now }
+pub fn list(out: &mut Out, s: &[u8]) -> Result<Parts, Refusal>
+    ensures { answered result ≡ listing s.now }
 {
-    match parse_job(s) {
-        Job::Of(p) => list_file(out, &s[FILE..], p),
-        Job::Refused(r) => {
-            refused(out, r);
-            Job::Refused(r)
-        }
+    let listed = list_functions(out, s);
+    if let Err(r) = listed {
+        refused(out, r);
     }
+    listed
 }

@@ -3,33 +3,33 @@ use Prim.Native.Nat.{ℕ, zero, suc, ◌+◌, ◌*◌, ◌-◌, ◌≤◌, ◌<�
 use mathlib.Core.Path.{◌≡◌, refl, sym, ap, ◌∙◌}
 use mathlib.Core.List.{List, [], ◌∷◌, ◌++◌, append_assoc}
 use mathlib.Core.Bool.{Bool, true, false}
-use native.Mathlib.Nat.{add-zero}
 use native.Mathlib.Numerals.{add-one}
 use native.Mathlib.Omega.{arith}
 use lib.ListN.{length, take, drop, set, length-append}
 use lib.Dec.{leb}
-use lib.Seq.{sets, length-sets}
+use lib.Seq.{sets}
 use borrow.Author.Tests.{le-leb, lt-leb, leb-true, leb-false}
 use borrow.Rule.Slice.PartMut.{put_mid}
+use Rattle.std.specs.Prelude.{Result, Ok, Err}
+use Rattle.std.specs.Result.{result_unwrap_or}
 use Rattle.hbc_io.specs.declared.Refusal.{Refusal}
 use Rattle.hbc_io.specs.Outcome.{limit, refusal_at}
 use Rattle.hbc_io.specs.Answer.{gives, refuses}
 use Rattle.hbc_io.specs.Plain.{span_in, part_of}
 use Rattle.hbc_io.proofs.Exits.{stop, past, given}
+use Rattle.hbc_io.specs.Answers.{answered}
 use Rattle.hbc_rows.specs.Rows.{rows}
 use Rattle.hbc_table_strings.specs.Row.{string_width}
 use Rattle.hbc_table_bytes.specs.StringBytes.{span_at, string_bytes}
-use Rattle.hbc_text_forms.specs.declared.Text.{Text}
-use Rattle.hbc_text_forms.specs.declared.Text.TheVariants.{Length, Refused}
-use Rattle.hbc_text_forms.specs.Text.{says_text, text_answer, put_answer, over, PutText}
-use Rattle.hbc_text_forms.proofs.Exits.{answered, unanswered, of_bytes}
-use Rattle.hbc_text_forms.proofs.Counting.{Counting, count_none, count_all, count_more, count_long}
+use Rattle.hbc_text_forms.specs.Text.{text_answer, put_answer, over, PutText}
+use Rattle.hbc_text_forms.proofs.Exits.{of_bytes}
+use Rattle.hbc_text_forms.proofs.Counting.{Counting, count_all, count_more}
 use Rattle.hbc_text_forms.proofs.Writing.{Writing, write_first, write_all, write_end, write_length, write_room, write_more}
 use Rattle.hbc_text.specs.StringText.{is_wide, string_text}
 use Rattle.hbc_text.proofs.Laws.{part_short}
 use Rattle.hbc_json_forms.specs.Json.{escaped, array, text_in}
-use Rattle.hbc_json_forms.proofs.Array.{led, array_none, array_some, led_cons, led_length}
-use Rattle.hbc_json_text.proofs.Parts.{two_set, piece_length, piece_put, piece_refused}
+use Rattle.hbc_json_forms.proofs.Array.{led, array_none, array_some, led_cons}
+use Rattle.hbc_json_text.proofs.Parts.{two_set, piece_given}
 use Rattle.hbc_json_text.proofs.Loops.{most}
 use Rattle.hbc_json.specs.StringsJson.{texts_from, texts, strings_json, strings_json_answer, StringsJson}
 use Rattle.hbc_json.specs.Private.{inside}
@@ -53,20 +53,16 @@ module _ (s t : List ℕ) (k : ℕ) {w : Bool} {b : List ℕ} (m : w ≡ is_wide
   pub inside_most : length (inside s t k) ≤ 6 * length b
   inside_most = rw (← inside_is) (most w b)
 
-  pub inside_says : length s ≤ limit → (room : ℕ) (r : Text) → says_text r ≡ put_answer (escaped (text_in w b)) b room → says_text r ≡ text_answer (inside s t k) room
+  pub inside_says : length s ≤ limit → (room : ℕ) (r : Result ℕ Refusal) → answered r ≡ put_answer (escaped (text_in w b)) b room → answered r ≡ text_answer (inside s t k) room
   inside_says l room r v = v ∙ sym (of_bytes (escaped (text_in w b)) room b (few l) refl) ∙ ap (λ (x : List ℕ). text_answer x room) inside_is
 
-  module _ (l : length s ≤ limit) (d : List ℕ) (n : ℕ) (room : n + length (inside s t k) ≤ length d) {r : Text} {after : List ℕ}
+  module _ (l : length s ≤ limit) (d : List ℕ) (n : ℕ) (room : n + length (inside s t k) ≤ length d) {r : Result ℕ Refusal} {after : List ℕ}
       (v : PutText (escaped (text_in w b)) b (take (length d - n) (drop n d)) r after) where
     room_in : n + length (escaped (text_in w b)) ≤ length d
     room_in = rw inside_is room
 
-    pub inside_put : (j : ℕ) → r ≡ Length j → (j ≡ length (inside s t k)) × (put_mid n (length d - n) d after ≡ sets d n (inside s t k))
-    inside_put j q =
-        rw (← inside_is) (piece_length (escaped (text_in w b)) b d n (few l) room_in j v q, piece_put (escaped (text_in w b)) b d n (few l) room_in j v q)
-
-    pub inside_refused : {x : Refusal} → r ≡ Refused x → ⊥
-    inside_refused q = piece_refused (escaped (text_in w b)) b d n (few l) room_in v q
+    pub inside_put : (result_unwrap_or r 0 ≡ length (inside s t k)) × (put_mid n (length d - n) d after ≡ sets d n (inside s t k))
+    inside_put = rw (← inside_is) (piece_given (escaped (text_in w b)) b d n (few l) room_in v)
 
 -- ---- the strings from one on
 
@@ -251,12 +247,12 @@ module _ (s t : List ℕ) (count : ℕ) where
 -- ---- the ways out
 
 module _ (s t : List ℕ) (count : ℕ) (before : List ℕ) where
-  pub too_long : {r : Refusal} → limit < length s → r ≡ refusal_at 1 0 → StringsJson s t count before (Refused r) before
+  pub too_long : {r : Refusal} → limit < length s → r ≡ refusal_at 1 0 → StringsJson s t count before (Err r) before
   unfolding strings_json_answer
   too_long h e = stop _ _ _ _ h refl (ap refuses e)
 
   module _ (l : length s ≤ limit) where
-    pub too_few : {r : Refusal} → rows string_width t < count → r ≡ refusal_at 11 0 → StringsJson s t count before (Refused r) before
+    pub too_few : {r : Refusal} → rows string_width t < count → r ≡ refusal_at 11 0 → StringsJson s t count before (Err r) before
     unfolding strings_json_answer
     too_few h e = past _ _ _ _ l (stop _ _ _ _ h refl (ap refuses e))
 
@@ -264,11 +260,11 @@ module _ (s t : List ℕ) (count : ℕ) (before : List ℕ) where
       pub is_room : w ≡ true → length (strings_json s t count) ≤ length before
       is_room z = leb-true _ _ (sym q ∙ z)
 
-      pub is_small : w ≡ false → {r : Refusal} → r ≡ refusal_at 4 0 → StringsJson s t count before (Refused r) before
+      pub is_small : w ≡ false → {r : Refusal} → r ≡ refusal_at 4 0 → StringsJson s t count before (Err r) before
       unfolding strings_json_answer text_answer
       is_small z e = past _ _ _ _ l (past _ _ _ _ h (stop _ _ _ _ (leb-false _ _ (sym q ∙ z)) refl (ap refuses e)))
 
       pub is_put : w ≡ true → {n : ℕ} {after : List ℕ} → n ≡ length (strings_json s t count) → after ≡ over (strings_json s t count) before
-          → StringsJson s t count before (Length n) after
+          → StringsJson s t count before (Ok n) after
       unfolding strings_json_answer text_answer
       is_put z e a = past _ _ _ _ l (past _ _ _ _ h (past _ _ _ _ (is_room z) (given refl (ap gives e) a)))

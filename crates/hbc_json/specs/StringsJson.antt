@@ -1,12 +1,13 @@
 -- docs/FORMAT.md, section 4.9: the strings of rows as JSON.
-use Rattle.std.specs.Prelude.{ℕ, zero, suc, List, [], ◌∷◌, length}
+use Rattle.std.specs.Prelude.{ℕ, zero, suc, List, [], ◌∷◌, length, Result}
 use Rattle.hbc_io.specs.Outcome.{limit}
 use Rattle.hbc_io.specs.Answer.{Answer, refused_at}
 use Rattle.hbc_io.specs.Lends.{below, Lends}
+use Rattle.hbc_io.specs.Answers.{answered}
+use Rattle.hbc_io.specs.declared.Refusal.{Refusal}
 use Rattle.hbc_rows.specs.Rows.{rows}
 use Rattle.hbc_table_strings.specs.Row.{string_width}
-use Rattle.hbc_text_forms.specs.declared.Text.{Text}
-use Rattle.hbc_text_forms.specs.Text.{says_text, text_answer, over}
+use Rattle.hbc_text_forms.specs.Text.{text_answer, over}
 use Rattle.hbc_text.specs.StringText.{string_text}
 use Rattle.hbc_json_forms.specs.Json.{array}
 
@@ -31,5 +32,5 @@ strings_json_answer s t count room =
     (text_answer (strings_json s t count) room))
 
 -- the promise: the array's length, and the array in front of what is lent
-abbrev pub StringsJson : List ℕ → List ℕ → ℕ → List ℕ → Text → List ℕ → Type 0
-StringsJson s t count before = Lends says_text (strings_json_answer s t count (length before)) (over (strings_json s t count) before) before
+abbrev pub StringsJson : List ℕ → List ℕ → ℕ → List ℕ → Result ℕ Refusal → List ℕ → Type 0
+StringsJson s t count before = Lends answered (strings_json_answer s t count (length before)) (over (strings_json s t count) before) before

@@ -1,24 +1,18 @@
--- Bytes that are not escaped: one, eight at once, the last eight; and a unit of UTF-16.
-use Prim.Native.Nat.{ℕ, suc, zero, ◌+◌, ◌*◌, ◌-◌, ◌≤◌, ◌<◌}
+-- Bytes that are not escaped: eight at once, the last eight.
+use Prim.Native.Nat.{ℕ, suc, ◌+◌, ◌-◌, ◌≤◌, ◌<◌}
 use mathlib.Core.Path.{◌≡◌, refl, sym, ◌∙◌}
 use mathlib.Core.Logic.{◌⊎◌, inl, inr}
 use mathlib.Core.List.{List}
-use mathlib.Core.Bool.{Bool, true, false, ◌&&◌, ◌||◌}
+use mathlib.Core.Bool.{Bool, true, false, ◌||◌}
 use native.Mathlib.Nat.{add-zero}
 use native.Mathlib.Omega.{arith}
 use lib.ListN.{length, get_or}
-use lib.Dec.{eqb}
-use borrow.Author.Tests.{eqb-true, eqb-false}
 use Rattle.hbc_text_forms.proofs.Laws.{no}
 use Rattle.hbc_text_forms.proofs.Codes.{split}
 use Rattle.hbc_json_forms.specs.Json.{is_escaped}
-use Rattle.hbc_json_forms.proofs.Laws.{clear_high}
 use Rattle.hbc_json_text.specs.Private.{AllClear, Passed}
 
 -- ---- runs
-
-pub passed_none : (s : List ℕ) (at : ℕ) → at ≤ length s → Passed s at at
-passed_none s at h = record { from = omega arith; inside = h; clear = λ j l. absurd (omega arith) }
 
 join_at : (s : List ℕ) (at e k j : ℕ) → Passed s at e → AllClear s e k → j < e + k - at → (j < e - at) ⊎ (e - at ≤ j) → is_escaped (get_or s (at + j) 0) ≡ false
 join_at s at e k j p a l (inl h) = p.clear j h
@@ -35,9 +29,6 @@ passed_join s at e k p h a =
       inside = h;
       clear = λ j l. join_at s at e k j p a l (split j (e - at));
     }
-
-pub passed_one : (s : List ℕ) (at e : ℕ) → Passed s at e → e < length s → is_escaped (get_or s e 0) ≡ false → Passed s at (e + 1)
-passed_one s at e p h c = passed_join s at e 1 p (omega arith) (λ j l. let z : e + j ≡ e = omega arith in rw z c)
 
 -- the last k, of which some were passed already
 pub passed_last : (s : List ℕ) (at e k : ℕ) → Passed s at e → k ≤ length s → length s - e < k → AllClear s (length s - k) k → Passed s at (length s)
@@ -85,16 +76,3 @@ eight_clear s at b0 b1 b2 b3 b4 b5 b6 b7 e0 e1 e2 e3 e4 e5 e6 e7 z =
     let a6 = snoc s at 5 a5 (sym e5 ∙ x5.1) in
     let a7 = snoc s at 6 a6 (sym e6 ∙ x6.1) in
     snoc s at 7 a7 (sym e7 ∙ x7.1)
-
--- ---- a unit
-
-unit_at : (l h : ℕ) (w : Bool) → eqb h 0 ≡ w → (w && is_escaped l) ≡ is_escaped (l + 256 * h)
-unit_at l h true e = let z : h ≡ 0 = eqb-true h 0 e in let q : l + 256 * h ≡ l = omega arith in rw q
-unit_at l h false e = let z : h ≡ 0 → ⊥ = eqb-false h 0 e in sym (clear_high (l + 256 * h) (some h z))
-  where
-    some : (x : ℕ) → (x ≡ 0 → ⊥) → 0x80 ≤ l + 256 * x
-    some zero n = absurd (n refl)
-    some (suc x) n = omega arith
-
-pub unit_is : (l h : ℕ) {b : Bool} → b ≡ is_escaped l → (eqb h 0 && b) ≡ is_escaped (l + 256 * h)
-unit_is l h e = rw e (unit_at l h (eqb h 0) refl)

@@ -2,22 +2,17 @@
 use Prim.Native.Nat.{ℕ, ◌+◌, ◌*◌, ◌-◌, ◌/◌, ◌%◌, ◌≤◌, ◌<◌}
 use mathlib.Core.Path.{◌≡◌, refl, sym, ap, ◌∙◌}
 use mathlib.Core.List.{List, [], ◌++◌, append-nil}
-use mathlib.Core.Bool.{Bool, true, false, not}
+use mathlib.Core.Bool.{Bool, true, false}
 use native.Mathlib.Nat.{add-zero}
 use native.Mathlib.Omega.{arith}
 use lib.ListN.{length, get_or, length-append}
-use lib.Dec.{leb, eqb, lit<}
-use lib.Seq.{sets, length-sets}
-use borrow.Author.Tests.{le-leb, lt-leb, leb-true, leb-false, eqb-true, eqb-false}
-use Rattle.hbc_io.specs.declared.Refusal.{Refusal}
+use lib.Dec.{leb}
+use lib.Seq.{sets}
+use borrow.Author.Tests.{le-leb, leb-true, leb-false}
+use Rattle.std.specs.Prelude.{Ok}
 use Rattle.hbc_io.specs.Outcome.{limit}
-use Rattle.hbc_text_forms.specs.declared.Text.{Text}
-use Rattle.hbc_text_forms.specs.declared.Text.TheVariants.{Length, Refused}
-use Rattle.hbc_text_forms.specs.Utf8.{utf8_text}
-use Rattle.hbc_text_forms.specs.Utf16.{utf16_text}
-use Rattle.hbc_text_forms.specs.Text.{says_text, text_answer, over, PutText}
-use Rattle.hbc_text_forms.proofs.Exits.{answered, unanswered, is_put}
-use Rattle.hbc_text_forms.proofs.Laws.{no}
+use Rattle.hbc_text_forms.specs.Text.{over, PutText}
+use Rattle.hbc_text_forms.proofs.Exits.{is_put}
 use Rattle.hbc_text_forms.proofs.Wide.{odd}
 use Rattle.hbc_text_forms.proofs.Counting.{Counting, count_none, count_all, count_more, count_long}
 use Rattle.hbc_text_forms.proofs.Writing.{Writing, write_first, write_all, write_end, write_length, write_room, write_more}
@@ -27,14 +22,6 @@ use Rattle.hbc_json_forms.proofs.Wide.{utf16_most}
 use Rattle.hbc_json_text.specs.Private.{step_of, Even, rest, piece, Next}
 
 -- ---- places
-
-pub even_first : (wide : Bool) → Even wide 0
-even_first true = refl
-even_first false = refl
-
-pub step_some : (wide : Bool) → 0 < step_of wide
-step_some true = lit< tt
-step_some false = lit< tt
 
 rest_first : (wide : Bool) (s : List ℕ) → rest wide s 0 ≡ escaped (text_in wide s)
 unfolding rest
@@ -54,17 +41,6 @@ module _ (wide : Bool) (s : List ℕ) (at e : ℕ) (p : Place wide s at e) where
   last_length : length s ≤ e → length (rest wide s at) ≡ length (piece wide s at e)
   last_length h = ap length (p.next.last h)
 
--- the test of half a unit
-odd_at : (n : ℕ) (b : Bool) → eqb (n % 2) 0 ≡ b → (not b ≡ true → n % 2 ≡ 0 → ⊥) × (not b ≡ false → n % 2 ≡ 0)
-odd_at n true e = (λ q. no q, λ q. eqb-true (n % 2) 0 e)
-odd_at n false e = (λ q. eqb-false (n % 2) 0 e, λ q. no (sym q))
-
-pub odd_wide : (wide : Bool) (n : ℕ) → wide ≡ true → (not (eqb (n % 2) 0) ≡ true → Even wide n → ⊥) × (not (eqb (n % 2) 0) ≡ false → Even wide n)
-odd_wide wide n e = rw e (odd_at n (eqb (n % 2) 0) refl)
-
-pub odd_plain : (wide : Bool) (n : ℕ) → wide ≡ false → (false ≡ true → Even wide n → ⊥) × (false ≡ false → Even wide n)
-odd_plain wide n e = rw e (λ q. no q, λ q. omega arith)
-
 -- half a unit: there is no text
 pub odd_none : (wide : Bool) (s : List ℕ) → (Even wide (length s) → ⊥) → escaped (text_in wide s) ≡ []
 unfolding escaped
@@ -75,7 +51,7 @@ odd_none true s n = ap escaped (odd s (half n))
 odd_none false s n = absurd (n (omega arith))
 
 pub odd_put : (wide : Bool) (s before : List ℕ) → (Even wide (length s) → ⊥) → length s ≤ limit
-    → PutText (escaped (text_in wide s)) s before (Length 0) before
+    → PutText (escaped (text_in wide s)) s before (Ok 0) before
 unfolding over
 odd_put wide s before n l = rw (odd_none wide s n) (is_put [] s before l (omega arith) refl refl)
 
@@ -149,14 +125,8 @@ module _ (wide : Bool) (s before : List ℕ) (at e n : ℕ) {d : List ℕ} (m : 
   pub put_length : length d ≡ length before
   put_length = write_length _ _ _ m.put
 
-  pub put_after : {x : List ℕ} → x ≡ sets d n (piece wide s at e) → length x ≡ length before
-  put_after a = ap length a ∙ length-sets d n (piece wide s at e) ∙ put_length
-
   pub room_here : e < length s → n + length (piece wide s at e) ≤ length d
   room_here h = omega (arith, write_room _ _ _ (here h), length-append (piece wide s at e) (escape (get_or s e 0) ++ rest wide s (e + step_of wide)))
-
-  pub room_last : length s ≤ e → n + length (piece wide s at e) ≤ length d
-  room_last h = omega (arith, write_room _ _ _ (last h), length-append (piece wide s at e) [])
 
   pub put_last : length s ≤ e → {k : ℕ} {x : List ℕ} → k ≡ length (piece wide s at e) → x ≡ sets d n (piece wide s at e)
       → (n + k ≡ length (escaped (text_in wide s))) × (x ≡ over (escaped (text_in wide s)) before)
@@ -190,14 +160,6 @@ most false s = utf8_most s
 
 pub room_for_any : (wide : Bool) (s : List ℕ) (room : ℕ) → length s ≤ room / 6 → true ≡ leb (length (escaped (text_in wide s))) room
 room_for_any wide s room h = sym (le-leb (length (escaped (text_in wide s))) room (omega (arith, most wide s)))
-
-pub room_measured : (wide : Bool) (s : List ℕ) (room n : ℕ) {r : Text} → says_text r ≡ text_answer (escaped (text_in wide s)) room → r ≡ Length n
-    → true ≡ leb (length (escaped (text_in wide s))) room
-room_measured wide s room n e q = sym (le-leb _ _ (answered (escaped (text_in wide s)) room n (sym e ∙ ap says_text q)).0)
-
-pub room_refused : (wide : Bool) (s : List ℕ) (room : ℕ) {r : Text} {k : Refusal} → says_text r ≡ text_answer (escaped (text_in wide s)) room → r ≡ Refused k
-    → false ≡ leb (length (escaped (text_in wide s))) room
-room_refused wide s room e q = sym (lt-leb _ _ (unanswered (escaped (text_in wide s)) room (sym e ∙ ap says_text q)))
 
 pub room_is : (wide : Bool) (s : List ℕ) (room : ℕ) {w : Bool} → w ≡ leb (length (escaped (text_in wide s))) room → w ≡ true → length (escaped (text_in wide s)) ≤ room
 room_is wide s room e h = leb-true _ _ (sym e ∙ h)

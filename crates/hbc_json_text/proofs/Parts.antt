@@ -8,17 +8,18 @@ use lib.ListN.{length, take, drop, set, length-take, length-drop}
 use lib.Seq.{sets, sets-eq, drop-drop, take-length, drop-length}
 use borrow.Author.Tests.{lt-ltb, le-ltb}
 use borrow.Rule.Slice.PartMut.{put_mid}
+use Rattle.std.specs.Prelude.{Result, Ok, Err}
+use Rattle.std.specs.Result.{result_unwrap_or}
 use Rattle.hbc_io.specs.Outcome.{limit}
 use Rattle.hbc_io.specs.Answer.{gives}
 use Rattle.hbc_io.specs.declared.Refusal.{Refusal}
 use Rattle.hbc_io.proofs.Exits.{not_given}
-use Rattle.hbc_text_forms.specs.declared.Text.{Text}
-use Rattle.hbc_text_forms.specs.declared.Text.TheVariants.{Length, Refused}
-use Rattle.hbc_text_forms.specs.Text.{says_text, text_answer, put_answer, over, PutText}
+use Rattle.hbc_io.specs.Answers.{answered}
+use Rattle.hbc_text_forms.specs.Text.{text_answer, put_answer, over, PutText}
 use Rattle.hbc_text_forms.specs.Scalars.{encode_all}
 use Rattle.hbc_text_forms.specs.Utf16.{units, scalars, utf16_text}
 use Rattle.hbc_text_forms.proofs.Laws.{text_nil}
-use Rattle.hbc_text_forms.proofs.Exits.{answered, unanswered, room_for, has_length, of_bytes}
+use Rattle.hbc_text_forms.proofs.Exits.{room_for, has_length, of_bytes}
 use Rattle.hbc_json_forms.specs.Json.{hex_digit, is_quote, escape, text_in}
 use Rattle.hbc_json_text.specs.Private.{piece}
 
@@ -71,24 +72,29 @@ module _ (text b d : List ℕ) (n : ℕ) (few : length b ≤ limit) (room : n + 
   lent_answer : gives (length text) ≡ put_answer text b (length (take (length d - n) (drop n d)))
   lent_answer = of_bytes text (length (take (length d - n) (drop n d))) b few (room_for text (length (take (length d - n) (drop n d))) lent_room)
 
-  pub piece_length : {r : Text} {after : List ℕ} (k : ℕ) → PutText text b (take (length d - n) (drop n d)) r after → r ≡ Length k → k ≡ length text
-  piece_length k v q = same (sym (ap says_text q) ∙ v.says ∙ sym lent_answer)
+  piece_length : {r : Result ℕ Refusal} {after : List ℕ} (k : ℕ) → PutText text b (take (length d - n) (drop n d)) r after → r ≡ Ok k → k ≡ length text
+  piece_length k v q = same (sym (ap answered q) ∙ v.says ∙ sym lent_answer)
     where
       same : gives k ≡ gives (length text) → k ≡ length text
       same e = cc
 
-  pub piece_put : {r : Text} {after : List ℕ} (k : ℕ) → PutText text b (take (length d - n) (drop n d)) r after → r ≡ Length k
+  piece_put : {r : Result ℕ Refusal} {after : List ℕ} (k : ℕ) → PutText text b (take (length d - n) (drop n d)) r after → r ≡ Ok k
       → put_mid n (length d - n) d after ≡ sets d n text
   unfolding over
-  piece_put {r = Length m} {after} k v q =
+  piece_put {r = Ok m} {after} k v q =
       let e : length d - n ≡ length (drop n d) = sym (length-drop n d) in
       let a : after ≡ text ++ drop (length text) (drop n d) = v.leaves ∙ rw behind in
       let z : drop (length d - n) (drop n d) ≡ [] = rw e (drop-length (drop n d)) in
       rw (z, append-nil after) (ap (λ (x : List ℕ). take n d ++ x) (a ∙ rw (drop-drop (length text) n d)) ∙ sym (append_assoc (take n d) text (drop (n + length text) d)) ∙ sym (sets-eq text d n room))
-  piece_put {r = Refused x} k v q = absurd (not_given (ap says_text q))
+  piece_put {r = Err x} k v q = absurd (not_given (ap answered q))
 
-  pub piece_refused : {r : Text} {after : List ℕ} {x : Refusal} → PutText text b (take (length d - n) (drop n d)) r after → r ≡ Refused x → ⊥
-  piece_refused v q = not_given (sym (ap says_text q) ∙ v.says ∙ sym lent_answer)
+  piece_refused : {r : Result ℕ Refusal} {after : List ℕ} {x : Refusal} → PutText text b (take (length d - n) (drop n d)) r after → r ≡ Err x → ⊥
+  piece_refused v q = not_given (sym (ap answered q) ∙ v.says ∙ sym lent_answer)
+
+  pub piece_given : {r : Result ℕ Refusal} {after : List ℕ} → PutText text b (take (length d - n) (drop n d)) r after
+      → (result_unwrap_or r 0 ≡ length text) × (put_mid n (length d - n) d after ≡ sets d n text)
+  piece_given {r = Ok k} v = (piece_length k v refl, piece_put k v refl)
+  piece_given {r = Err x} v = absurd (piece_refused v refl)
 
 -- ---- the piece of a string
 
@@ -96,31 +102,17 @@ part_few : (s : List ℕ) (at e : ℕ) → length s ≤ limit → length (take (
 part_few s at e l = omega (arith, length-take (e - at) (drop at s), length-drop at s)
 
 module _ (wide : Bool) (s : List ℕ) (at e : ℕ) (l : length s ≤ limit) where
-  module _ (d : List ℕ) (n : ℕ) (room : n + length (piece wide s at e) ≤ length d) {r : Text} {after : List ℕ}
+  module _ (d : List ℕ) (n : ℕ) (room : n + length (piece wide s at e) ≤ length d) {r : Result ℕ Refusal} {after : List ℕ}
       (v : PutText (text_in wide (take (e - at) (drop at s))) (take (e - at) (drop at s)) (take (length d - n) (drop n d)) r after) where
-    pub is_piece : (k : ℕ) → r ≡ Length k → (k ≡ length (piece wide s at e)) × (put_mid n (length d - n) d after ≡ sets d n (piece wide s at e))
+    pub is_piece : (result_unwrap_or r 0 ≡ length (piece wide s at e)) × (put_mid n (length d - n) d after ≡ sets d n (piece wide s at e))
     unfolding piece
-    is_piece k q =
-        let few = part_few s at e l in (
-          piece_length (text_in wide (take (e - at) (drop at s))) (take (e - at) (drop at s)) d n few room k v q,
-          piece_put (text_in wide (take (e - at) (drop at s))) (take (e - at) (drop at s)) d n few room k v q,
-        )
-
-    pub no_piece : {x : Refusal} → r ≡ Refused x → ⊥
-    unfolding piece
-    no_piece q = piece_refused (text_in wide (take (e - at) (drop at s))) (take (e - at) (drop at s)) d n (part_few s at e l) room v q
+    is_piece = piece_given (text_in wide (take (e - at) (drop at s))) (take (e - at) (drop at s)) d n (part_few s at e l) room v
 
   -- measured
-  module _ (room : ℕ) (r : Text) (v : says_text r ≡ put_answer (text_in wide (take (e - at) (drop at s))) (take (e - at) (drop at s)) room) where
-    says_piece : says_text r ≡ text_answer (piece wide s at e) room
+  module _ (room : ℕ) (r : Result ℕ Refusal) (v : answered r ≡ put_answer (text_in wide (take (e - at) (drop at s))) (take (e - at) (drop at s)) room) where
+    pub says_piece : answered r ≡ text_answer (piece wide s at e) room
     unfolding piece
     says_piece = v ∙ sym (of_bytes (text_in wide (take (e - at) (drop at s))) room (take (e - at) (drop at s)) (part_few s at e l) refl)
-
-    pub has_piece : (k : ℕ) → r ≡ Length k → (length (piece wide s at e) ≤ room) × (k ≡ length (piece wide s at e))
-    has_piece k q = answered (piece wide s at e) room k (sym says_piece ∙ ap says_text q)
-
-    pub long_piece : {x : Refusal} → r ≡ Refused x → room < length (piece wide s at e)
-    long_piece q = unanswered (piece wide s at e) room (sym says_piece ∙ ap says_text q)
 
 -- an empty piece
 none_in : (wide : Bool) → text_in wide [] ≡ []
@@ -138,5 +130,5 @@ none_at : (wide : Bool) (s : List ℕ) → length s ≡ 0 → text_in wide s ≡
 none_at wide [] e = none_in wide
 none_at wide (b ∷ s) e = absurd (omega arith)
 
-pub empty_length : (wide : Bool) (s : List ℕ) (room : ℕ) → length s ≡ 0 → says_text (Length 0) ≡ put_answer (text_in wide s) s room
+pub empty_length : (wide : Bool) (s : List ℕ) (room : ℕ) → length s ≡ 0 → answered (Ok 0) ≡ put_answer (text_in wide s) s room
 empty_length wide s room e = of_bytes (text_in wide s) room s (omega arith) (rw (none_at wide s e) (has_length [] room refl (omega arith)))

@@ -1,6 +1,6 @@
 -- Bytes up to the next of what is escaped: a piece that is text alone, and what follows.
 use Prim.Native.Nat.{ℕ, zero, suc, ◌+◌, ◌*◌, ◌-◌, ◌%◌, ◌≤◌, ◌<◌}
-use mathlib.Core.Path.{◌≡◌, refl, sym, ap, ◌∙◌}
+use mathlib.Core.Path.{◌≡◌, sym, ap, ◌∙◌}
 use mathlib.Core.List.{List, [], ◌∷◌, ◌++◌}
 use mathlib.Core.Bool.{true, false}
 use native.Mathlib.Nat.{add-zero}
@@ -15,7 +15,7 @@ use Rattle.hbc_json_forms.proofs.Laws as clear
 use Rattle.hbc_json_forms.proofs.Laws.{Clear, clear_append, escaped_append, low_escaped}
 use Rattle.hbc_json_forms.proofs.Split.{utf8_split, utf8_clear}
 use Rattle.hbc_json_forms.proofs.Wide.{units_append, utf16_split, utf16_clear}
-use Rattle.hbc_json_text.specs.Private.{rest, piece, AllClear, Passed, Stands, Next}
+use Rattle.hbc_json_text.specs.Private.{rest, piece, AllClear, Passed, Next}
 
 -- ---- the bytes from a place on, cut where another begins
 

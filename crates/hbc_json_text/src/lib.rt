@@ -5,25 +5,28 @@
 ghost use Rattle.std.specs.Prelude.{◌≡◌, true, false, ◌+◌, ◌≤◌, ◌<◌, length, leb};
 ghost use Rattle.std.proofs.lemmas.List.Edits.{sets};
 ghost use Rattle.hbc_io.specs.Outcome.{limit};
-ghost use Rattle.hbc_text_forms.specs.Text.{says_text, text_answer, put_answer, over, PutText};
+ghost use Rattle.hbc_io.specs.Answers.{answered};
+ghost use Rattle.hbc_text_forms.specs.Text.{text_answer, put_answer, over, PutText};
 ghost use Rattle.hbc_json_forms.specs.Json.{escape, escaped, text_in};
 ghost use Rattle.hbc_json_text.specs.Private.{step_of, Even, piece};
 
 mod next;
 mod put;
+mod units;
 
-use crate::next::{follow, is_quote, next, step};
-use crate::put::{put_escape, put_piece};
-use hbc_io::{LIMIT, refuse};
+use crate::next::is_quote;
+use crate::put::put_escape;
+use crate::units::Units;
+use hbc_io::{LIMIT, Reason, refuse};
 use hbc_text_forms::Text;
 use hbc_text_utf8::utf8_length;
 use hbc_text_utf16::utf16_length;
 
 fn text_length(s: &[u8], wide: bool, room: usize) -> Text
-    ensures { says_text result ≡ put_answer (text_in wide s.now) s.now room }
+    ensures { answered result ≡ put_answer (text_in wide s.now) s.now room }
 {
     if s.len() == 0 {
-        return Text::Length(0);
+        return Ok(0);
     }
     if wide {
         return utf16_length(s, room);
@@ -52,67 +55,68 @@ fn escape_length(b: u8) -> usize
     1
 }
 
-// How many bytes are written, or 4 where they are more than the room.
-fn measure(s: &[u8], wide: bool, room: usize) -> Text
-    requires { (length s.now ≤ limit) × Even wide (length s.now) }
-    ensures { says_text result ≡ text_answer (escaped (text_in wide s.now)) room }
-{
-    let mut at: usize = 0;
-    let mut n: usize = 0;
-    let mut alone: usize = 0;
-    let mut e = next(s, 0, wide);
-    while e < s.len() {
-        match text_length(&s[at..e], wide, room - n) {
-            Text::Refused(_) => return Text::Refused(refuse(4, 0)),
-            Text::Length(k) => {
-                n += k;
+impl Units<'_> {
+    // The text of the bytes from a place to another.
+    fn piece_length(self, at: usize, e: usize, room: usize) -> Text
+        requires { (at ≤ e) × (e ≤ length self.bytes.now) }
+        ensures { answered result ≡ text_answer (piece self.entry.wide self.entry.bytes.now at e) room }
+    {
+        text_length(&self.bytes[at..e], self.wide, room)
+    }
+
+    // How many bytes are written, or 4 where they are more than the room.
+    fn measure(self, room: usize) -> Text
+        ensures { answered result ≡ text_answer (escaped (text_in self.entry.wide self.entry.bytes.now)) room }
+    {
+        let mut at: usize = 0;
+        let mut n: usize = 0;
+        let mut alone: usize = 0;
+        let mut e = self.next(0);
+        // the next place is where the next stands that is escaped
+        while e < self.bytes.len() {
+            n += self.piece_length(at, e, room - n)?;
+            let k = escape_length(self.bytes[e]);
+            if room - n < k {
+                return Err(refuse(Reason::TooFewRows as u32, 0));
             }
+            n += k;
+            at = e + self.step();
+            alone = fewer(alone);
+            e = self.follow(at, alone);
         }
-        let k = escape_length(s[e]);
-        if room - n < k {
-            return Text::Refused(refuse(4, 0));
+        Ok(n + self.piece_length(at, e, room - n)?)
+    }
+
+    // All of it, for which there is room; the answer is its length.
+    fn put_all(self, d: &mut [u8]) -> usize
+        requires { length (escaped (text_in self.wide self.bytes.now)) ≤ length d.old }
+        ensures { (result ≡ length (escaped (text_in self.entry.wide self.entry.bytes.now)))
+            × (d.new ≡ over (escaped (text_in self.entry.wide self.entry.bytes.now)) d.old) }
+    {
+        let mut at: usize = 0;
+        let mut n: usize = 0;
+        let mut alone: usize = 0;
+        let mut e = self.next(0);
+        // the next place is where the next stands that is escaped
+        while e < self.bytes.len() {
+            n += self.put_piece(at, e, d, n);
+            n += put_escape(d, n, self.bytes[e]);
+            at = e + self.step();
+            alone = fewer(alone);
+            e = self.follow(at, alone);
         }
-        n += k;
-        at = e + step(wide);
-        alone = fewer(alone);
-        e = follow(s, at, wide, alone);
+        n + self.put_piece(at, e, d, n)
     }
-    match text_length(&s[at..e], wide, room - n) {
-        Text::Refused(_) => Text::Refused(refuse(4, 0)),
-        Text::Length(k) => Text::Length(n + k),
-    }
-}
 
-// All of it, for which there is room; the answer is its length.
-fn put_all(s: &[u8], wide: bool, d: &mut [u8]) -> usize
-    requires { (length s.now ≤ limit) × Even wide (length s.now) × (length (escaped (text_in wide s.now)) ≤ length d.old) }
-    ensures { (result ≡ length (escaped (text_in wide s.now))) × (d.new ≡ over (escaped (text_in wide s.now)) d.old) }
-{
-    let mut at: usize = 0;
-    let mut n: usize = 0;
-    let mut alone: usize = 0;
-    let mut e = next(s, 0, wide);
-    while e < s.len() {
-        n += put_piece(s, at, e, wide, d, n);
-        n += put_escape(d, n, s[e]);
-        at = e + step(wide);
-        alone = fewer(alone);
-        e = follow(s, at, wide, alone);
-    }
-    n + put_piece(s, at, e, wide, d, n)
-}
-
-// Whether there is room: none is counted where there is six times as much as bytes are read.
-fn enough(s: &[u8], wide: bool, room: usize) -> bool
-    requires { (length s.now ≤ limit) × Even wide (length s.now) }
-    ensures { result ≡ leb (length (escaped (text_in wide s.now))) room }
-{
-    if s.len() <= room / 6 {
-        return true;
-    }
-    match measure(s, wide, room) {
-        Text::Length(_) => true,
-        Text::Refused(_) => false,
+    // Whether there is room: none is counted where there is six times as much as bytes are read.
+    #[tactic(auto, using(crate::proofs::Loops::room_for_any, hbc_text_forms::proofs::Exits::fits))]
+    fn enough(self, room: usize) -> bool
+        ensures { result ≡ leb (length (escaped (text_in self.entry.wide self.entry.bytes.now))) room }
+    {
+        if self.bytes.len() <= room / 6 {
+            return true;
+        }
+        self.measure(room).is_ok()
     }
 }
 
@@ -128,15 +132,15 @@ fn is_odd(n: usize, wide: bool) -> bool
 
 // What escaped_text answers into so much room, nothing being written.
 pub fn escaped_length(s: &[u8], wide: bool, room: usize) -> Text
-    ensures { says_text result ≡ put_answer (escaped (text_in wide s.now)) s.now room }
+    ensures { answered result ≡ put_answer (escaped (text_in wide s.now)) s.now room }
 {
     if LIMIT < s.len() {
-        return Text::Refused(refuse(1, 0));
+        return Err(refuse(Reason::TooLong as u32, 0));
     }
     if is_odd(s.len(), wide) {
-        return Text::Length(0);
+        return Ok(0);
     }
-    measure(s, wide, room)
+    Units { bytes: s, wide }.measure(room)
 }
 
 // The text of bytes with what is escaped, in front of what is lent, whole or not at all.
@@ -144,13 +148,14 @@ pub fn escaped_text(s: &[u8], wide: bool, d: &mut [u8]) -> Text
     ensures { PutText (escaped (text_in wide s.now)) s.now d.old result d.new }
 {
     if LIMIT < s.len() {
-        return Text::Refused(refuse(1, 0));
+        return Err(refuse(Reason::TooLong as u32, 0));
     }
     if is_odd(s.len(), wide) {
-        return Text::Length(0);
+        return Ok(0);
     }
-    if enough(s, wide, d.len()) {
-        return Text::Length(put_all(s, wide, d));
+    let units = Units { bytes: s, wide };
+    if units.enough(d.len()) {
+        return Ok(units.put_all(d));
     }
-    Text::Refused(refuse(4, 0))
+    Err(refuse(Reason::TooFewRows as u32, 0))
 }

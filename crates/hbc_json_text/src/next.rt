@@ -3,11 +3,7 @@ ghost use Rattle.std.specs.Prelude.{◌≡◌, true, false, ◌+◌, ◌*◌, �
 ghost use Rattle.hbc_json_forms.specs.Json.{is_quote, is_escaped};
 ghost use Rattle.hbc_json_text.specs.Private.{step_of, Even, AllClear, Passed, Next};
 
-pub(crate) fn step(wide: bool) -> usize
-    ensures { result ≡ step_of wide }
-{
-    if wide { 2 } else { 1 }
-}
+use crate::units::Units;
 
 pub(crate) fn is_quote(b: u8) -> bool
     ensures { result ≡ is_quote b }
@@ -36,12 +32,13 @@ fn any_escaped(s: &[u8], at: usize) -> bool
         | is_escaped(s[at + 7])
 }
 
-// Eights that are clear, from a place on, and the last eight.
+// Eights that are clear, from a place on, and the last eight. That the place is within the bytes is of this place alone, here and in both functions below.
 fn blocks(s: &[u8], at: usize) -> usize
     requires { at ≤ length s.now }
     ensures { Passed s.now at result }
 {
     let mut e = at;
+    // where the eights end is used behind the loop, and a range would not keep it
     while 8 <= s.len() - e {
         if any_escaped(s, e) {
             return e;
@@ -63,15 +60,12 @@ fn next_byte(s: &[u8], at: usize) -> usize
     requires { at ≤ length s.now }
     ensures { Next false s.now at result }
 {
-    let mut e = blocks(s, at);
-    while e < s.len() {
+    for e in blocks(s, at)..s.len() {
         if is_escaped(s[e]) {
             return e;
-        } else {
-            e += 1;
         }
     }
-    e
+    s.len()
 }
 
 // Whether the unit at a place is escaped.
@@ -85,43 +79,49 @@ fn next_unit(s: &[u8], at: usize) -> usize
     requires { (at ≤ length s.now) × (at % 2 ≡ 0) × (length s.now % 2 ≡ 0) }
     ensures { Next true s.now at result }
 {
-    let mut e = at;
-    while e < s.len() {
+    for e in (at..s.len()).step_by(2) {
         if is_unit_escaped(s[e], s[e + 1]) {
             return e;
-        } else {
-            e += 2;
         }
     }
-    e
+    s.len()
 }
 
-// Where the next is escaped soon after the one before, bytes below 0x80 are taken by themselves, so many of them: no piece is looked for.
-pub(crate) fn follow(s: &[u8], at: usize, wide: bool, alone: usize) -> usize
-    requires { (at ≤ length s.now) × Even wide at × Even wide (length s.now) }
-    ensures { Next wide s.now at result }
-{
-    if wide {
-        return next(s, at, wide);
+impl Units<'_> {
+    // How many bytes a byte, or a unit of UTF-16, has.
+    pub(crate) fn step(self) -> usize
+        ensures { result ≡ step_of self.entry.wide }
+    {
+        if self.wide { 2 } else { 1 }
     }
-    if alone == 0 {
-        return next(s, at, wide);
-    }
-    if at < s.len() {
-        if s[at] < 0x80 {
-            return at;
+
+    // Where the next is escaped soon after the one before, bytes below 0x80 are taken by themselves, so many of them: no piece is looked for.
+    pub(crate) fn follow(self, at: usize, alone: usize) -> usize
+        requires { (at ≤ length self.bytes.now) × Even self.wide at }
+        ensures { Next self.entry.wide self.entry.bytes.now at result }
+    {
+        if self.wide {
+            return self.next(at);
         }
+        if alone == 0 {
+            return self.next(at);
+        }
+        if at < self.bytes.len() {
+            if self.bytes[at] < 0x80 {
+                return at;
+            }
+        }
+        self.next(at)
     }
-    next(s, at, wide)
-}
 
-// The next from a place on, or the end.
-pub(crate) fn next(s: &[u8], at: usize, wide: bool) -> usize
-    requires { (at ≤ length s.now) × Even wide at × Even wide (length s.now) }
-    ensures { Next wide s.now at result }
-{
-    if wide {
-        return next_unit(s, at);
+    // The next from a place on, or the end.
+    pub(crate) fn next(self, at: usize) -> usize
+        requires { (at ≤ length self.bytes.now) × Even self.wide at }
+        ensures { Next self.entry.wide self.entry.bytes.now at result }
+    {
+        if self.wide {
+            return next_unit(self.bytes, at);
+        }
+        next_byte(self.bytes, at)
     }
-    next_byte(s, at)
 }

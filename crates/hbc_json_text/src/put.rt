@@ -7,6 +7,7 @@ ghost use Rattle.hbc_json_forms.specs.Json.{hex_digit, escape, text_in};
 ghost use Rattle.hbc_json_text.specs.Private.{piece};
 
 use crate::next::is_quote;
+use crate::units::Units;
 use hbc_text_forms::Text;
 use hbc_text_utf8::utf8_text;
 use hbc_text_utf16::utf16_text;
@@ -20,17 +21,18 @@ fn put_text(s: &[u8], wide: bool, d: &mut [u8]) -> Text
     utf8_text(s, d)
 }
 
-// The text of the bytes from a place to another, for which there is room; the answer is its length.
-pub(crate) fn put_piece(s: &[u8], at: usize, e: usize, wide: bool, d: &mut [u8], n: usize) -> usize
-    requires { (at ≤ e) × (e ≤ length s.now) × (length s.now ≤ limit) × (n + length (piece wide s.now at e) ≤ length d.old) }
-    ensures { (result ≡ length (piece wide s.now at e)) × (d.new ≡ sets d.old n (piece wide s.now at e)) }
-{
-    if at == e {
-        return 0;
-    }
-    match put_text(&s[at..e], wide, &mut d[n..]) {
-        Text::Length(k) => k,
-        Text::Refused(_) => 0,
+impl Units<'_> {
+    // The text of the bytes from a place to another, for which there is room; the answer is its length.
+    pub(crate) fn put_piece(self, at: usize, e: usize, d: &mut [u8], n: usize) -> usize
+        requires { (at ≤ e) × (e ≤ length self.bytes.now) × (n + length (piece self.wide self.bytes.now at e) ≤ length d.old) }
+        ensures { (result ≡ length (piece self.entry.wide self.entry.bytes.now at e))
+            × (d.new ≡ sets d.old n (piece self.entry.wide self.entry.bytes.now at e)) }
+    {
+        if at == e {
+            return 0;
+        }
+        // nothing is refused where there is room
+        put_text(&self.bytes[at..e], self.wide, &mut d[n..]).unwrap_or(0)
     }
 }
 

@@ -9,6 +9,7 @@ fn main(rt: HostRuntime) -> io::Result<()> {
     let mut buf = [0u8; 65600];
     let n = read_full(&mut rt.stdin(), &mut buf)?;
     let mut out = Out::new(rt.stdout());
-    hbc_job::show::list(&mut out, &buf[..n]);
+    // a refusal is shown in its line
+    let _ = hbc_job::show::list(&mut out, &buf[..n]);
     out.end()
 }

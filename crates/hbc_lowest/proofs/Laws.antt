@@ -1,10 +1,11 @@
 -- What the lowest number is known by, and how a loop comes to it.
 use Prim.Native.Nat.{ℕ, zero, suc, ◌+◌, ◌≤◌, ◌<◌}
-use mathlib.Core.Path.{◌≡◌, refl, sym, ap, ◌∙◌}
+use mathlib.Core.Path.{◌≡◌, refl}
 use mathlib.Core.Bool.{Bool, true, false, cond}
 use native.Mathlib.Omega.{arith}
+use native.Mathlib.Numerals.{add-one}
 use native.Mathlib.Decide.{dec_lt}
-use borrow.Author.Tests.{lt-ltb, le-ltb, ltb-true, ltb-false}
+use borrow.Author.Tests.{ltb-true, ltb-false}
 use lib.Dec.{ltb}
 use Rattle.hbc_lowest.specs.Lowest.{some, lowest_of}
 
@@ -118,20 +119,12 @@ module _ (b : ℕ → Bool) where
   some_at zero e = absurd (truth_clash e refl)
   some_at (suc n) e = at_by n (some b n) refl (some_at n) e
 
-  not_by : {i : ℕ} (x : Bool) → b i ≡ x → (b i ≡ true → ⊥) → x ≡ false
-  not_by true e f = absurd (f e)
-  not_by false e f = refl
-
-  -- where none is, none
-  pub none_so : (n : ℕ) → some b n ≡ false → None b n
-  none_so n e = record { not = λ k l. not_by (b k) refl (λ q. truth_clash (some_is n k l q) e) }
+-- one number more
+pub lower_is : (b : ℕ → Bool) {i best r : ℕ} {so : Bool} → best ≡ lowest_of b i → so ≡ b i → r ≡ cond (ltb best i) best (cond so i (i + 1)) → r ≡ lowest_of b (suc i)
+unfolding lowest_of
+lower_is b {i} e f g = rw (g, e, f, add-one i)
 
 -- it goes by what is said of the first n alone
-pub lowest_same : (b c : ℕ → Bool) (n : ℕ) → ((i : ℕ) → i < n → b i ≡ c i) → lowest_of b n ≡ lowest_of c n
-lowest_same b c n e =
-    let p = is_lowest b n in
-    lowest_is c (record { most = p.most; so = λ l. sym (e _ l) ∙ p.so l; not = λ i l. sym (e i (omega (arith, l, p.most))) ∙ p.not i l })
-
 pub some_same : (b c : ℕ → Bool) (n : ℕ) → ((i : ℕ) → i < n → b i ≡ c i) → some b n ≡ some c n
 unfolding some
 some_same b c zero e = refl

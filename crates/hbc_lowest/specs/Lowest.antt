@@ -1,8 +1,5 @@
 -- docs/FORMAT.md, section 12.1: the lowest number that is so, of the numbers 0 to n - 1.
 use Rattle.std.specs.Prelude.{ℕ, zero, suc, Bool, true, false, cond, ltb}
-use Rattle.hbc_io.specs.Answer.{Answer, gives, refuses}
-use Rattle.hbc_lowest.specs.declared.Lowest.{Lowest}
-use Rattle.hbc_lowest.specs.declared.Lowest.TheVariants as lowest
 
 -- one of them is so
 unfoldable pub some : (ℕ → Bool) → ℕ → Bool
@@ -13,8 +10,3 @@ some b (suc n) = cond (some b n) true (b n)
 unfoldable pub lowest_of : (ℕ → Bool) → ℕ → ℕ
 lowest_of b zero = 0
 lowest_of b (suc n) = cond (ltb (lowest_of b n) n) (lowest_of b n) (cond (b n) n (suc n))
-
--- what each case of an answer says
-abbrev pub says_lowest : Lowest → Answer ℕ
-says_lowest (lowest.At n) = gives n
-says_lowest (lowest.Refused r) = refuses r

@@ -4,8 +4,4 @@
 use hbc_io::Refusal;
 
 // The lowest place, or how many there are where it is none; or a refusal, before any place is looked at.
-#[derive(Clone, Copy)]
-pub enum Lowest {
-    At(usize),
-    Refused(Refusal),
-}
+pub type Lowest = Result<usize, Refusal>;

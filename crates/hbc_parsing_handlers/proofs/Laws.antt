@@ -7,14 +7,14 @@ use native.Mathlib.Omega.{arith}
 use native.Mathlib.Numerals.{add-one}
 use lib.ListN.{length}
 use lib.Dec.{ltb, eqb}
-use borrow.Author.Tests.{le-ltb, le-leb, lt-leb, ne_eqb, ltb-true, ltb-false, eqb-false}
+use borrow.Author.Tests.{le-ltb, lt-leb, ne_eqb, ltb-true, ltb-false, eqb-false}
 use Rattle.hbc_bits.specs.Bits.{le_at, field}
 use Rattle.hbc_io.specs.Outcome.{got, refused, cursor_at, limit}
 use Rattle.hbc_io.specs.Lends.{below, choose}
 use Rattle.hbc_io.specs.Plain.{word_at, align_to, aligned_up}
 use Rattle.hbc_io.specs.declared.Cursor.{Cursor}
 use Rattle.hbc_io.specs.declared.Refusal.{Refusal}
-use Rattle.hbc_io.proofs.Exits.{not_below, is_chosen, not_chosen}
+use Rattle.hbc_io.proofs.Exits.{not_chosen}
 use Rattle.hbc_io.proofs.Reading.{not_both}
 use Rattle.hbc_io.proofs.Plains.{word_there}
 use Rattle.hbc_rows.specs.Rows.{put_row, put_rows}
@@ -22,23 +22,14 @@ use Rattle.hbc_rows.proofs.RowsAt.{rows_length, rows_more}
 use Rattle.hbc_parsing_handlers.specs.declared.Table.{Table}
 use Rattle.hbc_parsing_handlers.specs.declared.Reason.{Reason}
 use Rattle.hbc_parsing_handlers.specs.declared.Reason.TheVariants as r
-use Rattle.hbc_parsing_handlers.specs.declared.Why.{Why}
-use Rattle.hbc_parsing_handlers.specs.declared.Why.TheVariants as w
+use Rattle.std.specs.Prelude.{Result, Ok, Err}
+use Rattle.std.specs.Result.{result_unwrap_or}
 use Rattle.hbc_parsing_handlers.specs.Why.{table, most, handler_bytes, counted, table_at, why_at, why, shown_by, shown}
 use Rattle.hbc_parsing_handlers.specs.Handlers.{handler_words, handler_width, total, handler_row, put_handlers}
 use Rattle.hbc_parsing_handlers.specs.Private.{Found}
 
--- a count that was read where four bytes are left
-pub table_is : (s : List ℕ) (at : ℕ) {n : ℕ} {v : Why} → at + 4 ≤ length s → n ≡ word_at 4 s at → v ≡ counted s at n → v ≡ table_at s at
-unfolding table_at
-table_is s at h e p = not_below _ _ _ _ h (p ∙ ap (counted s at) (e ∙ word_there 4 s at h))
-
--- an info_offset that is not 0: at or past the end, or in the file, however the two were compared
-module _ (s : List ℕ) (info flags : ℕ) {v : Why} (flag : eqb (field 3 1 flags) 0 ≡ false) (some : eqb info 0 ≡ false) where
-  pub info_past : length s ≤ info → v ≡ w.Hidden r.InfoPast → v ≡ why_at s info flags
-  unfolding why_at
-  info_past h e = not_chosen _ _ _ flag (not_chosen _ _ _ some (is_chosen _ _ _ (le-leb (length s) info h) e))
-
+-- an info_offset that is not 0 and in the file
+module _ (s : List ℕ) (info flags : ℕ) {v : Result Table Reason} (flag : eqb (field 3 1 flags) 0 ≡ false) (some : eqb info 0 ≡ false) where
   pub info_inside : info < length s → v ≡ table_at s (aligned_up 4 info) → v ≡ why_at s info flags
   unfolding why_at
   info_inside h e = not_chosen _ _ _ flag (not_chosen _ _ _ some (not_chosen _ _ _ (lt-leb (length s) info h) e))
@@ -62,28 +53,28 @@ rounds_past a s at r c p h k e = past_end a s at r c (ltb (length s) (aligned_up
 
 -- ---- what holds of every reason: handlers shown are some, few, and all of them in the file
 
-abbrev pub Some : Why → Type 0
-Some (w.Shown t) = 0 < t.count
-Some (w.Hidden x) = Unit
+abbrev pub Some : Result Table Reason → Type 0
+Some (Ok t) = 0 < t.count
+Some (Err x) = Unit
 
-pub record Good (len : ℕ) (v : Why) : Type 0 where
+pub record Good (len : ℕ) (v : Result Table Reason) : Type 0 where
   pub some : Some v
   pub few : (shown_by v).count ≤ most
   pub room : (shown_by v).place + handler_bytes * (shown_by v).count ≤ len
 
 module _ {len : ℕ} where
-  hidden : (x : Reason) → Good len (w.Hidden x)
+  hidden : (x : Reason) → Good len (Err x)
   hidden x = record { some = tt; few = omega arith; room = omega arith }
 
-  good_by : (b : Bool) (x : Reason) (o : Why) → (b ≡ false → Good len o) → Good len (cond b (w.Hidden x) o)
+  good_by : (b : Bool) (x : Reason) (o : Result Table Reason) → (b ≡ false → Good len o) → Good len (cond b (Err x) o)
   good_by true x o h = hidden x
   good_by false x o h = h refl
 
-  good_choose : (b : Bool) (x : Reason) (o : Why) → (b ≡ false → Good len o) → Good len (choose b (w.Hidden x) o)
+  good_choose : (b : Bool) (x : Reason) (o : Result Table Reason) → (b ≡ false → Good len o) → Good len (choose b (Err x) o)
   unfolding choose
   good_choose b x o h = good_by b x o h
 
-  good_below : (a b : ℕ) (x : Reason) (o : Why) → (b ≤ a → Good len o) → Good len (below a b (w.Hidden x) o)
+  good_below : (a b : ℕ) (x : Reason) (o : Result Table Reason) → (b ≤ a → Good len o) → Good len (below a b (Err x) o)
   unfolding below
   good_below a b x o h = good_by (ltb a b) x o (λ e. h (ltb-false a b e))
 
@@ -92,7 +83,7 @@ unfolding counted
 good_counted s at n =
     good_choose _ _ _ (λ z.
     good_below _ _ _ _ (λ h.
-    good_below _ _ r.Cut (w.Shown (table n (at + 4))) (λ k.
+    good_below _ _ r.Cut (Ok (table n (at + 4))) (λ k.
     let p : (n ≡ 0 → ⊥) = eqb-false n 0 z in
     record { some = omega arith; few = h; room = k })))
 
@@ -108,9 +99,15 @@ pub good : (s functions : List ℕ) (i : ℕ) → Good (length s) (why s functio
 unfolding why
 good s functions i = good_at s _ _
 
-pub found_is : {s functions : List ℕ} {i : ℕ} {t : Table} {v : Why} → v ≡ why s functions i → t ≡ shown_by v → Found s functions i t
+shown_or : (v : Result Table Reason) → result_unwrap_or v (table 0 0) ≡ shown_by v
+shown_or (Ok t) = refl
+shown_or (Err x) = refl
+
+pub found_is : {s functions : List ℕ} {i : ℕ} {t : Table} {v : Result Table Reason} → v ≡ why s functions i → t ≡ result_unwrap_or v (table 0 0)
+    → Found s functions i t
 unfolding shown
-found_is {s} {functions} {i} {t} {v} e p =
+found_is {s} {functions} {i} {t} {v} e o =
+    let p : t ≡ shown_by v = o ∙ shown_or v in
     let g : Good (length s) v = rw e (good s functions i) in
     record { is = p ∙ ap shown_by e; few = rw p g.few; room = rw p g.room }
 

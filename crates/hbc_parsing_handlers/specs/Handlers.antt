@@ -1,13 +1,13 @@
 -- docs/FORMAT.md, section 6.2: the rows of all handlers.
-use Rattle.std.specs.Prelude.{ℕ, zero, suc, ◌+◌, ◌*◌, ◌/◌, List, [], ◌∷◌, length}
+use Rattle.std.specs.Prelude.{Result, ℕ, zero, suc, ◌+◌, ◌*◌, List, [], ◌∷◌, length}
 use Rattle.hbc_bits.specs.Bits.{le_at}
 use Rattle.hbc_io.specs.Outcome.{limit}
-use Rattle.hbc_io.specs.Answer.{Answer, gives, refuses, refused_at}
+use Rattle.hbc_io.specs.Answer.{Answer, gives, refused_at}
+use Rattle.hbc_io.specs.Answers.{answered}
 use Rattle.hbc_io.specs.Lends.{below, Lends}
+use Rattle.hbc_io.specs.declared.Refusal.{Refusal}
 use Rattle.hbc_rows.specs.Rows.{rows, put_rows}
 use Rattle.hbc_function_record.specs.Row.{width}
-use Rattle.hbc_parsing_handlers.specs.declared.Listed.{Listed}
-use Rattle.hbc_parsing_handlers.specs.declared.Listed.TheVariants as l
 use Rattle.hbc_parsing_handlers.specs.Why.{handler_bytes, shown}
 
 -- the words of a handler's row
@@ -43,11 +43,6 @@ put_handlers s functions (suc i) t =
     (shown s functions i).count
     (put_handlers s functions i t)
 
--- what each case of the answer says
-abbrev pub says_listed : Listed → Answer ℕ
-says_listed (l.Rows n) = gives n
-says_listed (l.Refused r) = refuses r
-
 -- 1, then 11 if fewer function rows are lent than the count says; 4, known only after reading, last
 unfoldable pub handlers_answer : List ℕ → List ℕ → ℕ → ℕ → Answer ℕ
 handlers_answer s functions count room =
@@ -57,6 +52,6 @@ handlers_answer s functions count room =
     (gives (total s functions count))))
 
 -- the promise: the answer, and the lent rows
-abbrev pub ReadHandlers : List ℕ → List ℕ → ℕ → List ℕ → Listed → List ℕ → Type 0
+abbrev pub ReadHandlers : List ℕ → List ℕ → ℕ → List ℕ → Result ℕ Refusal → List ℕ → Type 0
 ReadHandlers s functions count before =
-    Lends says_listed (handlers_answer s functions count (rows handler_width before)) (put_handlers s functions count before) before
+    Lends answered (handlers_answer s functions count (rows handler_width before)) (put_handlers s functions count before) before

@@ -6,12 +6,12 @@
 ghost use Rattle.std.specs.Prelude.{◌≡◌, ◌+◌, ◌*◌, ◌≤◌, ◌<◌, ◌^◌, length};
 ghost use Rattle.hbc_io.specs.Outcome.{limit};
 ghost use Rattle.hbc_rows.specs.Rows.{put_rows};
-ghost use Rattle.hbc_parsing_handlers.specs.Why.{handler_bytes, table_at, why_at, why, WhyNoHandlers};
+ghost use Rattle.hbc_parsing_handlers.specs.Why.{handler_bytes, counted, table_at, why_at, why, WhyNoHandlers};
 ghost use Rattle.hbc_parsing_handlers.specs.Handlers.{handler_width, total, handler_row, put_handlers, ReadHandlers};
 ghost use Rattle.hbc_parsing_handlers.specs.Private.{Found};
 
 use hbc_function_record::{ROW_FLAGS, ROW_INFO_OFFSET, WIDTH};
-use hbc_io::{Cursor, LIMIT, Moved, Refusal};
+use hbc_io::{Cursor, LIMIT, Refusal, refuse};
 
 // A count above this is none.
 const MOST: u32 = 1000;
@@ -41,172 +41,182 @@ pub enum Reason {
     Cut,
 }
 
-// Handlers that are shown, or the first reason why there are none.
-#[derive(Clone, Copy)]
-pub enum Why {
-    Shown(Table),
-    Hidden(Reason),
-}
-
-// A function's handlers or the reason why it has none, or the refusal.
-#[derive(Clone, Copy)]
-pub enum Explained {
-    By(Why),
-    Refused(Refusal),
-}
-
-// So many rows, or the refusal.
-#[derive(Clone, Copy)]
-pub enum Listed {
-    Rows(usize),
-    Refused(Refusal),
-}
-
-// What stands at a place: a count and its triples, or why not.
-fn table_at(file: &[u8], at: usize) -> Why
+// A count that stands at a place, and its triples, or why not.
+#[tactic(auto, unfolding(crate::specs::Why::counted, hbc_io::specs::Lends::below, hbc_io::specs::Lends::choose))]
+fn counted(file: &[u8], at: usize, count: u32) -> Result<Table, Reason>
     requires { at ≤ length file.now }
-    ensures { result ≡ table_at file.now at }
+    ensures { result ≡ counted file.now at count }
 {
-    if file.len() < at + 4 {
-        return Why::Hidden(Reason::NoRoom);
-    }
-    let count = hbc_io::u32_at(file, at);
     if count == 0 {
-        return Why::Hidden(Reason::CountZero);
+        return Err(Reason::CountZero);
     }
     if MOST < count {
-        return Why::Hidden(Reason::CountHigh);
+        return Err(Reason::CountHigh);
     }
     if file.len() < at + 4 + HANDLER_BYTES * (count as usize) {
-        return Why::Hidden(Reason::Cut);
+        return Err(Reason::Cut);
     }
-    Why::Shown(Table {
+    Ok(Table {
         count,
         place: at + 4,
     })
 }
 
-// What the file says of a function with this info_offset and these flags.
-fn why_at(file: &[u8], info: u32, flags: u32) -> Why
-    requires { length file.now ≤ limit }
-    ensures { result ≡ why_at file.now info flags }
+// What stands at a place.
+#[tactic(auto, unfolding(crate::specs::Why::table_at, hbc_io::specs::Lends::below), using(hbc_io::proofs::Plains::word_there))]
+fn table_at(file: &[u8], at: usize) -> Result<Table, Reason>
+    requires { at ≤ length file.now }
+    ensures { result ≡ table_at file.now at }
 {
-    if hbc_rows::field_of(flags, 3, 1) == 0 {
-        return Why::Hidden(Reason::FlagClear);
+    if file.len() < at + 4 {
+        return Err(Reason::NoRoom);
     }
-    if info == 0 {
-        return Why::Hidden(Reason::InfoZero);
-    }
-    let from = info as usize;
-    if file.len() <= from {
-        return Why::Hidden(Reason::InfoPast);
-    }
-    match hbc_io::align(file, Cursor { at: from }, 4) {
-        Moved::To(c) => table_at(file, c.at),
-        Moved::Refused(_, _) => Why::Hidden(Reason::NoRoom),
-    }
+    counted(file, at, hbc_io::u32_at(file, at))
 }
 
-// Function `i` of the lent rows: only info_offset and flags are read.
-fn why_row(file: &[u8], functions: &[u32], i: usize) -> Why
-    requires { (i < 2 ^ 32) × (length file.now ≤ limit) }
-    ensures { result ≡ why file.now functions.now i }
-{
-    let info = hbc_rows::word_of(functions, i * WIDTH + ROW_INFO_OFFSET);
-    let flags = hbc_rows::word_of(functions, i * WIDTH + ROW_FLAGS);
-    why_at(file, info, flags)
+// A file that is short enough to be read, and the lent rows of its functions: row `i` is function `i`.
+#[derive(Clone, Copy)]
+struct Functions<'a> {
+    file: &'a [u8],
+    rows: &'a [u32],
+    ghost short: { length file.now ≤ limit },
+}
+
+impl Functions<'_> {
+    // What the file says of a function with this info_offset and these flags.
+    #[tactic(auto, unfolding(crate::specs::Why::why_at, hbc_io::specs::Lends::choose), using(hbc_io::proofs::Aligns::aligned))]
+    fn why_at(self, info: u32, flags: u32) -> Result<Table, Reason>
+        ensures { result ≡ why_at self.entry.file.now info flags }
+    {
+        let file = self.file;
+        if hbc_rows::field_of(flags, 3, 1) == 0 {
+            return Err(Reason::FlagClear);
+        }
+        if info == 0 {
+            return Err(Reason::InfoZero);
+        }
+        let from = info as usize;
+        if file.len() <= from {
+            return Err(Reason::InfoPast);
+        }
+        let Ok(c) = hbc_io::align(file, Cursor { at: from }, 4) else {
+            return Err(Reason::NoRoom);
+        };
+        table_at(file, c.at)
+    }
+
+    // Function `i`: only info_offset and flags are read.
+    #[tactic(auto, unfolding(crate::specs::Why::why))]
+    fn why(self, i: usize) -> Result<Table, Reason>
+        requires { i < 2 ^ 32 }
+        ensures { result ≡ why self.entry.file.now self.entry.rows.now i }
+    {
+        let info = hbc_rows::word_of(self.rows, i * WIDTH + ROW_INFO_OFFSET);
+        let flags = hbc_rows::word_of(self.rows, i * WIDTH + ROW_FLAGS);
+        self.why_at(info, flags)
+    }
+
+    // Its handlers: none for every reason.
+    #[tactic(auto, using(crate::proofs::Laws::found_is))]
+    fn shown(self, i: usize) -> Table
+        requires { i < 2 ^ 32 }
+        ensures { Found self.entry.file.now self.entry.rows.now i result }
+    {
+        self.why(i).unwrap_or(Table { count: 0, place: 0 })
+    }
+
+    // The rows of the first `n` functions, counted.
+    fn count_all(self, n: usize) -> usize
+        requires { n < 2 ^ 32 }
+        ensures { result ≡ total self.entry.file.now self.entry.rows.now n }
+    {
+        let mut sum: usize = 0;
+        for i in 0..n {
+            sum += self.shown(i).count as usize;
+        }
+        sum
+    }
+
+    // One function's rows, put from row `first` on.
+    fn write_one(self, function: u32, t: Table, first: usize, rows: &mut [u32])
+        requires { (t.place + handler_bytes * t.count ≤ length self.file.now) × (first < 2 ^ 43) }
+        ensures { rows.new ≡ put_rows handler_width (handler_row self.entry.file.now function t.place) first t.count rows.old }
+    {
+        let file = self.file;
+        let place = t.place;
+        let n = t.count as usize;
+        for j in 0..n {
+            let at = place + HANDLER_BYTES * j;
+            let start = hbc_io::u32_at(file, at);
+            let end = hbc_io::u32_at(file, at + 4);
+            let target = hbc_io::u32_at(file, at + 8);
+            let row = [function, start, end, target];
+            hbc_rows::put_row(rows, first + j, &row);
+        }
+    }
+
+    // All rows, function by function.
+    fn write_all(self, n: usize, rows: &mut [u32])
+        requires { n < 2 ^ 32 }
+        ensures { rows.new ≡ put_handlers self.entry.file.now self.entry.rows.now n rows.old }
+    {
+        let mut first: usize = 0;
+        for i in 0..n {
+            let t = self.shown(i);
+            self.write_one(i as u32, t, first, rows);
+            first += t.count as usize;
+        }
+    }
 }
 
 // Why function `id` has no handlers, or how many it has: row `id` is function `id`, and may be any numbers.
-pub fn why_no_handlers(file: &[u8], functions: &[u32], id: u32) -> Explained
+#[tactic(auto, unfolding(crate::specs::Why::why_answer, hbc_io::specs::Lends::below))]
+pub fn why_no_handlers(
+    file: &[u8],
+    functions: &[u32],
+    id: u32,
+) -> Result<Result<Table, Reason>, Refusal>
     ensures { WhyNoHandlers file.now functions.now id result }
 {
     let i = id as usize;
     if LIMIT < file.len() {
-        return Explained::Refused(hbc_io::refuse(1, 0));
+        return Err(refuse(hbc_io::Reason::TooLong as u32, 0));
     }
     if functions.len() / WIDTH <= i {
-        return Explained::Refused(hbc_io::refuse(11, 0));
+        return Err(refuse(hbc_io::Reason::TooFewToRead as u32, 0));
     }
-    Explained::By(why_row(file, functions, i))
-}
-
-// Its handlers: none for every reason.
-fn shown(file: &[u8], functions: &[u32], i: usize) -> Table
-    requires { (i < 2 ^ 32) × (length file.now ≤ limit) }
-    ensures { Found file.now functions.now i result }
-{
-    match why_row(file, functions, i) {
-        Why::Shown(t) => t,
-        Why::Hidden(_) => Table { count: 0, place: 0 },
-    }
-}
-
-// The rows of the first `n` functions, counted.
-fn count_all(file: &[u8], functions: &[u32], n: usize) -> usize
-    requires { (n < 2 ^ 32) × (length file.now ≤ limit) }
-    ensures { result ≡ total file.now functions.now n }
-{
-    let mut sum: usize = 0;
-    let mut i: usize = 0;
-    while i < n {
-        let t = shown(file, functions, i);
-        sum += t.count as usize;
-        i += 1;
-    }
-    sum
-}
-
-// One function's rows, put from row `first` on.
-fn write_one(file: &[u8], function: u32, t: Table, first: usize, rows: &mut [u32])
-    requires { (t.place + handler_bytes * t.count ≤ length file.now) × (length file.now ≤ limit) × (first < 2 ^ 43) }
-    ensures { rows.new ≡ put_rows handler_width (handler_row file.now function t.place) first t.count rows.old }
-{
-    let place = t.place;
-    let n = t.count as usize;
-    let mut j: usize = 0;
-    while j < n {
-        let at = place + HANDLER_BYTES * j;
-        let start = hbc_io::u32_at(file, at);
-        let end = hbc_io::u32_at(file, at + 4);
-        let target = hbc_io::u32_at(file, at + 8);
-        let row = [function, start, end, target];
-        hbc_rows::put_row(rows, first + j, &row);
-        j += 1;
-    }
-}
-
-// All rows, function by function.
-fn write_all(file: &[u8], functions: &[u32], n: usize, rows: &mut [u32])
-    requires { (n < 2 ^ 32) × (length file.now ≤ limit) }
-    ensures { rows.new ≡ put_handlers file.now functions.now n rows.old }
-{
-    let mut first: usize = 0;
-    let mut i: usize = 0;
-    while i < n {
-        let t = shown(file, functions, i);
-        let count = t.count as usize;
-        write_one(file, i as u32, t, first, rows);
-        first += count;
-        i += 1;
-    }
+    let table = Functions {
+        file,
+        rows: functions,
+    };
+    Ok(table.why(i))
 }
 
 // The handlers of the first `count` functions. The number of rows is known only after reading, so that 4 comes last.
-pub fn read_handlers(file: &[u8], functions: &[u32], count: u32, rows: &mut [u32]) -> Listed
+#[tactic(auto, unfolding(crate::specs::Handlers::handlers_answer, hbc_io::specs::Lends::below))]
+pub fn read_handlers(
+    file: &[u8],
+    functions: &[u32],
+    count: u32,
+    rows: &mut [u32],
+) -> Result<usize, Refusal>
     ensures { ReadHandlers file.now functions.now count rows.old result rows.new }
 {
     let n = count as usize;
     if LIMIT < file.len() {
-        return Listed::Refused(hbc_io::refuse(1, 0));
+        return Err(refuse(hbc_io::Reason::TooLong as u32, 0));
     }
     if functions.len() / WIDTH < n {
-        return Listed::Refused(hbc_io::refuse(11, 0));
+        return Err(refuse(hbc_io::Reason::TooFewToRead as u32, 0));
     }
-    let sum = count_all(file, functions, n);
+    let table = Functions {
+        file,
+        rows: functions,
+    };
+    let sum = table.count_all(n);
     if rows.len() / HANDLER_WIDTH < sum {
-        return Listed::Refused(hbc_io::refuse(4, 0));
+        return Err(refuse(hbc_io::Reason::TooFewRows as u32, 0));
     }
-    write_all(file, functions, n, rows);
-    Listed::Rows(sum)
+    table.write_all(n, rows);
+    Ok(sum)
 }

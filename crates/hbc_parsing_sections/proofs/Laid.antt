@@ -13,8 +13,7 @@ use Rattle.hbc_io.proofs.Reading.{past_test, same_got, then_got, valued_got}
 use Rattle.hbc_io.proofs.Plains.{bytes_got}
 use Rattle.hbc_io.proofs.Aligns.{aligned}
 use Rattle.hbc_parsing_sections.specs.declared.Section.{Section}
-use Rattle.hbc_parsing_sections.specs.declared.Sources.{Sources}
-use Rattle.hbc_parsing_sections.specs.declared.Sources.TheVariants as src
+use Rattle.std.specs.Prelude.{Option, Some, None}
 use Rattle.hbc_parsing_sections.specs.declared.Sections.{Sections}
 use Rattle.hbc_parsing_sections.specs.Laid.{There, Between, SourcesThere, Laid}
 use Rattle.hbc_parsing_sections.specs.Sections.{section, section_at, pairs_at, sources_at, sections_from, sections_at}
@@ -57,19 +56,19 @@ pairs_lie s count c p next e = section_lies s (8 * count) count c p next e
 there : {s : List ℕ} {count : ℕ} {c : Cursor} {p : Section} {next : Cursor} → Lies s (8 * count) count c p next → There s p
 there v = omega (arith, v.has, v.room)
 
-record Sourced (s : List ℕ) (v : Sources) (from to : ℕ) : Type 0 where
+record Sourced (s : List ℕ) (v : Option Section) (from to : ℕ) : Type 0 where
   lie : Between v from to
   fit : SourcesThere s v
   inside : from ≤ length s → to ≤ length s
 
-sources_lie : (given : Bool) (s : List ℕ) (count : ℕ) (c : Cursor) (v : Sources) (next : Cursor) → sources_at given count s c ≡ got v next → Sourced s v c.at next.at
+sources_lie : (given : Bool) (s : List ℕ) (count : ℕ) (c : Cursor) (v : Option Section) (next : Cursor) → sources_at given count s c ≡ got v next → Sourced s v c.at next.at
 unfolding sources_at
 sources_lie true s count c v next e =
-    let a = valued_got src.Given (pairs_at count s c) v next e in
+    let a = valued_got Some (pairs_at count s c) v next e in
     let l = pairs_lie s count c a.0 next a.1 in
     rw a.2 (record { lie = (l.starts, l.ends); fit = there l; inside = λ _. l.inside })
 sources_lie false s count c v next e =
-    let z = same_got src.Absent v c next e in
+    let z = same_got None v c next e in
     rw (← z.0, ← z.1) (record { lie = refl; fit = tt; inside = λ h. h })
 
 -- ---- all of them

@@ -1,45 +1,16 @@
--- The laws that the exits cite: what a section is found to be, and that it ends where it starts or later, so that its size is a difference.
+-- That a section ends where it starts or later, so that its size is a difference.
 use Prim.Native.Nat.{ℕ, ◌+◌, ◌-◌, ◌%◌, ◌≤◌}
 use mathlib.Core.Path.{◌≡◌, ap}
 use mathlib.Core.List.{List}
 use mathlib.Core.Bool.{Bool, true, false, cond}
 use native.Mathlib.Omega.{arith}
 use lib.Dec.{eqb}
-use Rattle.hbc_io.specs.Outcome.{got, refused}
+use Rattle.hbc_io.specs.Outcome.{got}
 use Rattle.hbc_io.specs.Plain.{bytes_at, align_to}
 use Rattle.hbc_io.specs.declared.Cursor.{Cursor}
-use Rattle.hbc_io.specs.declared.Refusal.{Refusal}
 use Rattle.hbc_io.specs.declared.Span.{Span}
 use Rattle.hbc_io.proofs.Plains.{bytes_got}
 use Rattle.hbc_io.proofs.Aligns.{aligned}
-use Rattle.hbc_parsing_sections.specs.declared.Sources.{Sources}
-use Rattle.hbc_parsing_sections.specs.declared.Sources.TheVariants as src
-use Rattle.hbc_parsing_sections.specs.Sections.{section, section_at, sources_at}
-
--- ---- one law for each exit
-
-module _ (bytes entries : ℕ) (s : List ℕ) (c : Cursor) where
-  pub is_cut : {r : Refusal} {stays : Cursor} → bytes_at bytes s c ≡ refused r stays → refused r stays ≡ section_at bytes entries s c
-  unfolding section_at
-  is_cut e = rw e
-
-  -- the align is to 4
-  pub is_open : (a : ℕ) {p : Span} {next : Cursor} {r : Refusal} {stays : Cursor} → bytes_at bytes s c ≡ got p next → align_to s next a ≡ refused r stays → a ≡ 4
-      → refused r stays ≡ section_at bytes entries s c
-  unfolding section_at
-  is_open a e f h = rw (e, ← h, f)
-
-  pub is_found : (a : ℕ) {p : Span} {next end : Cursor} → bytes_at bytes s c ≡ got p next → align_to s next a ≡ got tt end → a ≡ 4
-      → got (section c.at (end.at - c.at) entries) end ≡ section_at bytes entries s c
-  unfolding section_at
-  is_found a e f h = rw (e, ← h, f)
-
--- sources that are not given are absent
-pub is_absent : (given : Bool) (count : ℕ) (s : List ℕ) {c : Cursor} {v : Sources} → given ≡ false → v ≡ src.Absent → got v c ≡ sources_at given count s c
-unfolding sources_at
-is_absent given count s h e = rw (h, e)
-
--- ---- places
 
 either_on : (b : Bool) (at more : ℕ) → at ≤ cond b at (at + more)
 either_on true at more = omega arith

@@ -1,10 +1,8 @@
 -- docs/FORMAT.md, section 6.3: where the sections lie, one after another from the start to the file's end, the entries of each table within the file.
 -- No promise cites it: it is what follows of the answer for whoever lays the sections out as words, and a theorem.
-use Rattle.std.specs.Prelude.{ℕ, ◌+◌, ◌*◌, ◌≤◌, ◌≡◌, List, length}
+use Rattle.std.specs.Prelude.{Option, Some, None, ℕ, ◌+◌, ◌*◌, ◌≤◌, ◌≡◌, List, length}
 use Rattle.hbc_io.specs.Outcome.{limit}
 use Rattle.hbc_parsing_sections.specs.declared.Section.{Section}
-use Rattle.hbc_parsing_sections.specs.declared.Sources.{Sources}
-use Rattle.hbc_parsing_sections.specs.declared.Sources.TheVariants as src
 use Rattle.hbc_parsing_sections.specs.declared.Sections.{Sections}
 
 -- a table's entries are in the file
@@ -12,13 +10,13 @@ abbrev pub There : List ℕ → Section → Type 0
 There s p = p.start + 8 * p.entries ≤ length s
 
 -- sources given lie between the CJS pairs and the bytecode; absent ones leave no gap
-abbrev pub Between : Sources → ℕ → ℕ → Type 0
-Between (src.Given p) from to = (p.start ≡ from) × (p.start + p.size ≡ to)
-Between src.Absent from to = from ≡ to
+abbrev pub Between : Option Section → ℕ → ℕ → Type 0
+Between (Some p) from to = (p.start ≡ from) × (p.start + p.size ≡ to)
+Between None from to = from ≡ to
 
-abbrev pub SourcesThere : List ℕ → Sources → Type 0
-SourcesThere s (src.Given p) = There s p
-SourcesThere s src.Absent = Unit
+abbrev pub SourcesThere : List ℕ → Option Section → Type 0
+SourcesThere s (Some p) = There s p
+SourcesThere s None = Unit
 
 pub record Laid (s : List ℕ) (start : ℕ) (v : Sections) : Type 0 where
   pub short : length s ≤ limit

@@ -1,3 +1,2 @@
 pub mod Sections
 pub mod Laid
-pub mod Private

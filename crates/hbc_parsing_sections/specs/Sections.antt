@@ -1,16 +1,11 @@
 -- docs/FORMAT.md, section 6.3: the trailing sections from a start.
 -- Refusals, all at place 0, follow the file: 1, 2 for the start, then each section's bytes (3) and padding (2).
-use Rattle.std.specs.Prelude.{ℕ, ◌-◌, ◌*◌, List, Bool, cond}
+use Rattle.std.specs.Prelude.{Option, Some, None, ℕ, ◌-◌, ◌*◌, List, Bool, cond}
 use Rattle.hbc_io.specs.Outcome.{Outcome, got, cursor_at, left, valued, and_then}
-use Rattle.hbc_io.specs.Answer.{Answer, gives, refuses}
 use Rattle.hbc_io.specs.Plain.{bytes_at, seek_to, align_to}
 use Rattle.hbc_io.specs.declared.Cursor.{Cursor}
 use Rattle.hbc_parsing_sections.specs.declared.Section.{Section}
-use Rattle.hbc_parsing_sections.specs.declared.Sources.{Sources}
-use Rattle.hbc_parsing_sections.specs.declared.Sources.TheVariants as src
 use Rattle.hbc_parsing_sections.specs.declared.Sections.{Sections}
-use Rattle.hbc_parsing_sections.specs.declared.ReadSections.{ReadSections}
-use Rattle.hbc_parsing_sections.specs.declared.ReadSections.TheVariants as all
 
 abbrev pub section : ℕ → ℕ → ℕ → Section
 section start size entries = record { start = start; size = size; entries = entries }
@@ -26,9 +21,9 @@ section_at bytes entries s c =
 unfoldable pub pairs_at : ℕ → List ℕ → Cursor → Outcome Section
 pairs_at count s c = section_at (8 * count) count s c
 
--- function sources if given; those not asked for are marked absent
-unfoldable pub sources_at : Bool → ℕ → List ℕ → Cursor → Outcome Sources
-sources_at given count s c = cond given (valued src.Given (pairs_at count s c)) (got src.Absent c)
+-- function sources if given; those not asked for are none
+unfoldable pub sources_at : Bool → ℕ → List ℕ → Cursor → Outcome (Option Section)
+sources_at given count s c = cond given (valued Some (pairs_at count s c)) (got None c)
 
 -- regexp table, regexp storage, CJS pairs, function sources if given; then bytecode to the end
 unfoldable pub sections_from : ℕ → ℕ → ℕ → Bool → ℕ → List ℕ → Cursor → Outcome Sections
@@ -43,8 +38,3 @@ sections_from regexps storage cjs given sources s c =
 unfoldable pub sections_at : ℕ → ℕ → ℕ → ℕ → Bool → ℕ → List ℕ → Outcome Sections
 sections_at start regexps storage cjs given sources s =
     and_then (seek_to s (cursor_at 0) start) (λ _ c. sections_from regexps storage cjs given sources s c)
-
--- what each case of the answer says; what is due is sections_at without its cursor
-abbrev pub says_sections : ReadSections → Answer Sections
-says_sections (all.Got s) = gives s
-says_sections (all.Refused r) = refuses r

@@ -4,10 +4,10 @@
 
 ghost use Rattle.std.specs.Prelude.{◌≡◌};
 ghost use Rattle.hbc_io.specs.Answer.{told};
-ghost use Rattle.hbc_parsing_sections.specs.Sections.{says_sections, section_at, pairs_at, sources_at, sections_from, sections_at};
-ghost use Rattle.hbc_parsing_sections.specs.Private.{says_section, says_sources};
+ghost use Rattle.hbc_io.specs.Answers.{says, answered};
+ghost use Rattle.hbc_parsing_sections.specs.Sections.{section_at, pairs_at, sources_at, sections_from, sections_at};
 
-use hbc_io::{Cursor, Moved, ReadSpan, Refusal};
+use hbc_io::{Cursor, Read, Refusal};
 
 // Where a section starts in the file, how many bytes it has with its padding, and how many entries.
 #[derive(Clone, Copy)]
@@ -18,82 +18,56 @@ pub struct Section {
 }
 
 #[derive(Clone, Copy)]
-pub enum Sources {
-    Given(Section),
-    // not asked for
-    Absent,
-}
-
-#[derive(Clone, Copy)]
 pub struct Sections {
     pub regexps: Section,
     pub storage: Section,
     pub cjs: Section,
-    pub sources: Sources,
+    // none where they are not asked for
+    pub sources: Option<Section>,
     pub bytecode: Section,
 }
 
-#[derive(Clone, Copy)]
-pub enum ReadSections {
-    Got(Sections),
-    Refused(Refusal),
-}
-
-// A section and the cursor after its padding.
-#[derive(Clone, Copy)]
-pub enum ReadSection {
-    Got(Section, Cursor),
-    Refused(Refusal, Cursor),
-}
-
-#[derive(Clone, Copy)]
-pub enum ReadSources {
-    Got(Sources, Cursor),
-    Refused(Refusal, Cursor),
-}
-
 // So many bytes at the cursor, padded to 4 in the file.
-fn section_at(file: &[u8], c: Cursor, bytes: usize, entries: u32) -> ReadSection
-    ensures { says_section result ≡ section_at bytes entries file.now c }
+#[tactic(auto, unfolding(crate::specs::Sections::section_at), using(crate::proofs::Laws::section_on))]
+fn section_at(file: &[u8], c: Cursor, bytes: usize, entries: u32) -> Read<Section>
+    ensures { says result ≡ section_at bytes entries file.now c }
 {
     let start = c.at;
-    match hbc_io::read_bytes(file, c, bytes) {
-        ReadSpan::Refused(r, stays) => ReadSection::Refused(r, stays),
-        ReadSpan::Got(_, next) => match hbc_io::align(file, next, 4) {
-            Moved::Refused(r, stays) => ReadSection::Refused(r, stays),
-            Moved::To(end) => ReadSection::Got(
-                Section {
-                    start,
-                    size: end.at - start,
-                    entries,
-                },
-                end,
-            ),
+    let (_, next) = hbc_io::read_bytes(file, c, bytes)?;
+    let end = hbc_io::align(file, next, 4)?;
+    let size = end.at - start;
+    Ok((
+        Section {
+            start,
+            size,
+            entries,
         },
-    }
+        end,
+    ))
 }
 
 // So many pairs, 8 bytes each.
-fn pairs_at(file: &[u8], c: Cursor, count: u32) -> ReadSection
-    ensures { says_section result ≡ pairs_at count file.now c }
+#[tactic(auto, unfolding(crate::specs::Sections::pairs_at))]
+fn pairs_at(file: &[u8], c: Cursor, count: u32) -> Read<Section>
+    ensures { says result ≡ pairs_at count file.now c }
 {
     section_at(file, c, 8 * (count as usize), count)
 }
 
-fn sources_at(file: &[u8], c: Cursor, given: bool, count: u32) -> ReadSources
-    ensures { says_sources result ≡ sources_at given count file.now c }
+#[tactic(auto, unfolding(crate::specs::Sections::sources_at))]
+fn sources_at(file: &[u8], c: Cursor, given: bool, count: u32) -> Read<Option<Section>>
+    ensures { says result ≡ sources_at given count file.now c }
 {
     if given {
-        match pairs_at(file, c, count) {
-            ReadSection::Refused(r, stays) => ReadSources::Refused(r, stays),
-            ReadSection::Got(s, next) => ReadSources::Got(Sources::Given(s), next),
-        }
+        let (s, next) = pairs_at(file, c, count)?;
+        Ok((Some(s), next))
     } else {
-        ReadSources::Got(Sources::Absent, c)
+        Ok((None, c))
     }
 }
 
 // The sections from the cursor on.
+#[tactic(auto, unfolding(crate::specs::Sections::sections_from))]
 fn sections_from(
     file: &[u8],
     c: Cursor,
@@ -102,38 +76,29 @@ fn sections_from(
     cjs: u32,
     given: bool,
     sources: u32,
-) -> ReadSections
-    ensures { says_sections result ≡ told (sections_from regexps storage cjs given sources file.now c) }
+) -> Result<Sections, Refusal>
+    ensures { answered result ≡ told (sections_from regexps storage cjs given sources file.now c) }
 {
-    match pairs_at(file, c, regexps) {
-        ReadSection::Refused(r, _) => ReadSections::Refused(r),
-        ReadSection::Got(a, p) => match section_at(file, p, storage as usize, 0) {
-            ReadSection::Refused(r, _) => ReadSections::Refused(r),
-            ReadSection::Got(b, q) => match pairs_at(file, q, cjs) {
-                ReadSection::Refused(r, _) => ReadSections::Refused(r),
-                ReadSection::Got(d, u) => match sources_at(file, u, given, sources) {
-                    ReadSources::Refused(r, _) => ReadSections::Refused(r),
-                    ReadSources::Got(e, v) => {
-                        let start = v.at;
-                        ReadSections::Got(Sections {
-                            regexps: a,
-                            storage: b,
-                            cjs: d,
-                            sources: e,
-                            bytecode: Section {
-                                start,
-                                size: hbc_io::remaining(file, v),
-                                entries: 0,
-                            },
-                        })
-                    }
-                },
-            },
-        },
-    }
+    let (regexps, c) = pairs_at(file, c, regexps)?;
+    let (storage, c) = section_at(file, c, storage as usize, 0)?;
+    let (cjs, c) = pairs_at(file, c, cjs)?;
+    let (sources, c) = sources_at(file, c, given, sources)?;
+    let bytecode = Section {
+        start: c.at,
+        size: hbc_io::remaining(file, c),
+        entries: 0,
+    };
+    Ok(Sections {
+        regexps,
+        storage,
+        cjs,
+        sources,
+        bytecode,
+    })
 }
 
 // The sections of a file from a start; `sources` counts only if `given`.
+#[tactic(auto, unfolding(crate::specs::Sections::sections_at))]
 pub fn trailing_sections(
     file: &[u8],
     start: usize,
@@ -142,11 +107,9 @@ pub fn trailing_sections(
     cjs: u32,
     given: bool,
     sources: u32,
-) -> ReadSections
-    ensures { says_sections result ≡ told (sections_at start regexps storage cjs given sources file.now) }
+) -> Result<Sections, Refusal>
+    ensures { answered result ≡ told (sections_at start regexps storage cjs given sources file.now) }
 {
-    match hbc_io::seek(file, hbc_io::first(), start) {
-        Moved::Refused(r, _) => ReadSections::Refused(r),
-        Moved::To(c) => sections_from(file, c, regexps, storage, cjs, given, sources),
-    }
+    let c = hbc_io::seek(file, hbc_io::first(), start)?;
+    sections_from(file, c, regexps, storage, cjs, given, sources)
 }

@@ -1,6 +1,5 @@
 -- One law for each exit of a function, and for each loop a record with its laws: first, on, done.
-use Rattle.std.proofs.Common.{◌≡◌, ℕ, ◌+◌, ◌/◌, ◌%◌, ◌^◌, ◌≤◌, Bool, true, false, cond, not, ◌&&◌, eqb, List, length, get_or, take, set, sym, refl, ap, ◌∙◌, add-one, arith, length-set, take_all, MutBor, eq-eqb, ne_eqb}
-use mathlib.Core.Bool.{or-true}
+use Rattle.std.proofs.Common.{◌≡◌, ℕ, ◌+◌, ◌/◌, ◌%◌, ◌^◌, ◌≤◌, Bool, true, false, cond, not, ◌&&◌, eqb, List, length, get_or, take, set, sym, refl, ap, ◌∙◌, add-one, length-set, take_all, MutBor}
 use mir.Val.{bool_byte}
 use Rattle.hbc_rows.specs.Rows.{filled}
 use Rattle.hbc_io.specs.Outcome.{got, refused, valued, cursor_at}
@@ -109,25 +108,6 @@ module _ (l : List ℕ) {n₀ n₁ n₂ n₃ n₄ n₅ n₆ n₇ n₈ : Number} 
   unfolding asked_of nth
   asked_is e₀ e₁ e₂ e₃ e₄ e₅ e₆ e₇ e₈ fp fq fr fs = rw (fp, fq, fr, fs, e₈, e₇, e₆, e₅, e₄, e₃, e₂, e₁, e₀)
 
--- ---- one number
-
-module _ (may : Bool) (f at : ℕ) (n : Number) (came : ℕ) where
-  pub other_than : (n.value ≡ came → ⊥) → false ≡ is_listed may f at n came
-  unfolding is_listed
-  other_than d = rw (ne_eqb _ _ d)
-
-  pub may_be : n.value ≡ came → may ≡ true → true ≡ is_listed may f at n came
-  unfolding is_listed
-  may_be e m = rw (eq-eqb _ _ e, m)
-
-  pub not_fill : n.value ≡ came → (n.value ≡ f → ⊥) → true ≡ is_listed may f at n came
-  unfolding is_listed
-  not_fill e d = rw (eq-eqb _ _ e, ne_eqb _ _ d) (sym (or-true may))
-
-  pub or_none : n.value ≡ came → may ≡ false → n.value ≡ f → eqb n.next at ≡ is_listed may f at n came
-  unfolding is_listed
-  or_none e m d = rw (eq-eqb _ _ e, m, eq-eqb _ _ d)
-
 -- ---- what a call is lent and given
 
 pub record Put (w t₀ : List ℕ) (i : ℕ) (t : List ℕ) : Type 0 where
@@ -147,10 +127,6 @@ put_done d h = rw (← d) h.is
 
 pub front_all : (t : MutBor (List ℕ)) (k : ℕ) → length t.now ≤ k → IsFront t k t
 front_all t k l = record { words = sym (take_all k t.now l); place = refl }
-
--- a part that starts at 0 stands where its table does
-pub from_first : (p : ℕ × ℕ) → (p.0, 0 + p.1) ≡ p
-from_first p = let e : 0 + p.1 ≡ p.1 = omega arith in ap (λ (n : ℕ). (p.0, n)) e
 
 pub given_is : {s w : List ℕ} {t u r : MutBor (List ℕ)} → w ≡ s → u.now ≡ filled (words_of w) (length t.now) t.now → u.ref_ptr ≡ t.ref_ptr
     → IsFront u (length w / 4) r → IsGiven s t r

@@ -10,8 +10,6 @@ ghost use Rattle.hbc_record.specs.Records.{fill, fill_long, is_listed, judged_on
 ghost use Rattle.hbc_record.specs.Records.{same_float, IsFront, words_of, IsGiven, tally, counted_on};
 
 use hbc_io::{Cursor, Span};
-use hbc_io_leb::ReadUleb;
-use hbc_io_strings::ReadPrefixed;
 use hbc_stdio::Out;
 
 // What a word of a lent table holds before a call.
@@ -57,12 +55,20 @@ pub struct Asked {
     pub s: u32,
 }
 
+// A recorded call: its record, its input s, which is field 1 of that, and what it is asked.
+#[derive(Clone, Copy)]
+pub struct Call<'a> {
+    pub record: &'a [u8],
+    pub s: &'a [u8],
+    pub n: Asked,
+}
+
 fn span_at(s: &[u8], at: usize) -> Span
     ensures { result ≡ span_at s.now at }
 {
     match hbc_io_strings::read_length_prefixed_string(s, Cursor { at }) {
-        ReadPrefixed::Got(p, _) => p.span,
-        ReadPrefixed::Refused(_, _) => Span { start: 0, len: 0 },
+        Ok((string, _)) => string.span,
+        Err(_) => Span { start: 0, len: 0 },
     }
 }
 
@@ -78,8 +84,8 @@ pub fn past(s: &[u8], at: usize) -> usize
     ensures { result ≡ past_at s.now at }
 {
     match hbc_io_strings::read_length_prefixed_string(s, Cursor { at }) {
-        ReadPrefixed::Got(_, c) => c.at,
-        ReadPrefixed::Refused(_, _) => s.len(),
+        Ok((_, next)) => next.at,
+        Err(_) => s.len(),
     }
 }
 
@@ -87,10 +93,8 @@ fn place(fields: &[u8], k: usize) -> usize
     ensures { result ≡ place_of fields.now k }
 {
     let mut at: usize = 0;
-    let mut i: usize = 0;
-    while i < k {
+    for i in 0..k {
         at = past(fields, at);
-        i += 1;
     }
     at
 }
@@ -107,11 +111,11 @@ fn listed(list: &[u8], at: usize, unlisted: u64) -> Number
     ensures { result ≡ listed_at list.now at unlisted }
 {
     match hbc_io_leb::read_uleb128(list, Cursor { at }) {
-        ReadUleb::Got(v, c) => Number {
+        Ok((v, next)) => Number {
             value: v.value,
-            next: c.at,
+            next: next.at,
         },
-        ReadUleb::Refused(_, _) => Number {
+        Err(_) => Number {
             value: unlisted,
             next: at,
         },
@@ -151,29 +155,12 @@ pub fn head(fields: &[u8]) -> Asked
     }
 }
 
-fn both(a: bool, b: bool) -> bool
-    ensures { result ≡ (a && b) }
-{
-    if a {
-        return b;
-    }
-    false
-}
-
 // Whether a number listed is the one that came. The fill is left out of an answer, never listed: there a number too many is seen, whatever it is.
+#[tactic(auto, unfolding(crate::specs::Records::is_listed))]
 fn is_listed(may: bool, fill: u64, at: usize, n: Number, came: u64) -> bool
     ensures { result ≡ is_listed may fill at n came }
 {
-    if n.value != came {
-        return false;
-    }
-    if may {
-        return true;
-    }
-    if n.value != fill {
-        return true;
-    }
-    n.next == at
+    n.value == came && (may || n.value != fill || n.next == at)
 }
 
 fn judged_on(may: bool, list: &[u8], fill: u64, j: Judged, came: u64) -> Judged
@@ -181,7 +168,7 @@ fn judged_on(may: bool, list: &[u8], fill: u64, j: Judged, came: u64) -> Judged
 {
     let n = listed(list, j.next, fill);
     Judged {
-        same: both(j.same, is_listed(may, fill, j.next, n, came)),
+        same: j.same & is_listed(may, fill, j.next, n, came),
         next: n.next,
     }
 }
@@ -195,18 +182,10 @@ pub fn are(fields: &[u8], k: usize, t: &[u64]) -> bool
         same: true,
         next: 0,
     };
-    let mut i: usize = 0;
-    while i < t.len() {
-        j = judged_on(false, list, FILL_LONG, j, t[i]);
-        i += 1;
+    for came in t {
+        j = judged_on(false, list, FILL_LONG, j, *came);
     }
-    both(j.same, j.next == list.len())
-}
-
-fn wide(x: u32) -> u64
-    ensures { result ≡ x }
-{
-    x as u64
+    j.same & (j.next == list.len())
 }
 
 // The same of words. A table may keep a word between two that are written, and then it is listed.
@@ -218,12 +197,10 @@ pub fn words_are(fields: &[u8], k: usize, t: &[u32]) -> bool
         same: true,
         next: 0,
     };
-    let mut i: usize = 0;
-    while i < t.len() {
-        j = judged_on(true, list, FILL_NUMBER, j, wide(t[i]));
-        i += 1;
+    for came in t {
+        j = judged_on(true, list, FILL_NUMBER, j, *came as u64);
     }
-    both(j.same, j.next == list.len())
+    j.same & (j.next == list.len())
 }
 
 // Whether a call answered the numbers that are recorded. The array is made here once: a judge that makes its own costs the check more.
@@ -238,10 +215,7 @@ pub fn answers(fields: &[u8], code: u64, a: usize, b: usize, c: usize, d: usize)
 pub fn leaves(fields: &[u8], code: u64, more: usize, table: &[u32]) -> bool
     ensures { result ≡ left_as fields.now code more table.now }
 {
-    both(
-        answers(fields, code, more, NONE, NONE, NONE),
-        words_are(fields, 3, table),
-    )
+    answers(fields, code, more, NONE, NONE, NONE) & words_are(fields, 3, table)
 }
 
 // Whether these bytes are field k.
@@ -250,10 +224,8 @@ pub fn bytes_are(fields: &[u8], k: usize, b: &[u8]) -> bool
 {
     let a = field_of(fields, k);
     let mut same = a.len() == b.len();
-    let mut i: usize = 0;
-    while i < a.len() {
-        same = both(same, hbc_io::u8_at(a, i) == hbc_io::u8_at(b, i));
-        i += 1;
+    for i in 0..a.len() {
+        same &= hbc_io::u8_at(a, i) == hbc_io::u8_at(b, i);
     }
     same
 }
@@ -273,8 +245,7 @@ pub fn lent(t: &mut [u32], k: usize) -> &mut [u32]
     if t.len() < k {
         return t;
     }
-    let first: usize = 0;
-    &mut t[first..k]
+    &mut t[..k]
 }
 
 // The same of 64-bit words.
@@ -284,8 +255,7 @@ pub fn lent_longs(t: &mut [u64], k: usize) -> &mut [u64]
     if t.len() < k {
         return t;
     }
-    let first: usize = 0;
-    &mut t[first..k]
+    &mut t[..k]
 }
 
 // And of bytes.
@@ -295,17 +265,14 @@ pub fn lent_bytes(t: &mut [u8], k: usize) -> &mut [u8]
     if t.len() < k {
         return t;
     }
-    let first: usize = 0;
-    &mut t[first..k]
+    &mut t[..k]
 }
 
 fn put_words(words: &[u8], table: &mut [u32])
     ensures { table.new ≡ filled (words_of words.now) (length table.old) table.old }
 {
-    let mut i: usize = 0;
-    while i < table.len() {
+    for i in 0..table.len() {
         table[i] = hbc_io::u32_at(words, 4 * i);
-        i += 1;
     }
 }
 

@@ -6,7 +6,7 @@ use mathlib.Core.Bool.{true, false}
 use native.Mathlib.Nat.{div-le_self, mod-le, le_trans, lt_of_le_of_lt}
 use native.Mathlib.Numerals.{add-one}
 use lib.Dec.{eqb}
-use lib.ListN.{length, get_or, set, length-set, get_or-eq_default}
+use lib.ListN.{length, set, length-set, get_or-eq_default}
 use borrow.Author.Tests.{eq-eqb, ne_eqb}
 use Rattle.hbc_bits.specs.Bits.{field}
 use Rattle.hbc_rows.specs.Rows.{entry_at, filled}
@@ -23,14 +23,7 @@ module _ (f : ℕ → ℕ) (t : List ℕ) where
   filled_length zero = refl
   filled_length (suc n) = simp length-set (filled_length n)
 
-  pub filled_done : {u : List ℕ} {i n : ℕ} → i ≡ n → u ≡ filled f i t → u ≡ filled f n t
-  filled_done e h = rw (← e) h
-
 -- ---- one word
-
-pub entry_in : (t : List ℕ) (i : ℕ) → get_or t i 0 ≡ entry_at t i
-unfolding entry_at
-entry_in t i = refl
 
 pub entry_none : (t : List ℕ) (i : ℕ) → length t ≤ i → 0 ≡ entry_at t i
 unfolding entry_at

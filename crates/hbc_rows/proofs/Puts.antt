@@ -1,13 +1,12 @@
 -- What stands in a list after bytes were put into it, and values put one after another.
-use Prim.Native.Nat.{ℕ, zero, suc, ◌+◌, ◌-◌, ◌^◌, ◌≤◌, ◌<◌}
+use Prim.Native.Nat.{ℕ, ◌+◌, ◌-◌, ◌^◌, ◌≤◌, ◌<◌}
 use mathlib.Core.Path.{◌≡◌, refl, sym, ap, ◌∙◌}
 use mathlib.Core.List.{List, [], ◌∷◌, ◌++◌, append_assoc}
-use native.Mathlib.Nat.{add_assoc, add-zero}
 use native.Mathlib.Omega.{arith}
 use lib.ListN.{length, take, drop, get_or, length-append, length-drop, take-append-drop}
 use lib.Seq.{length-sets, sets-eq, length-take-le, take-append_seam, drop-append_seam, take-append-le, drop-append-le, drop-append-add, drop-drop, take-take, take-add, drop_at}
 use Rattle.hbc_bits.specs.Bits.{little_endian, le_at}
-use Rattle.hbc_bits.specs.Fields.{bytes_of, laid}
+use Rattle.hbc_bits.specs.Fields.{bytes_of}
 use Rattle.hbc_bits.proofs.Fields.{bytes_length, bytes_number}
 use Rattle.hbc_rows.specs.Rows.{put}
 use Rattle.hbc_rows.proofs.RowsAt.{sets_other}
@@ -113,12 +112,3 @@ abbrev pub puts : List ℕ → List ℕ → ℕ → ℕ → List ℕ → List �
 puts [] vs at d s = s
 puts (n ∷ ns) [] at d s = s
 puts (n ∷ ns) (v ∷ vs) at d s = puts ns vs at (d + n) (put (at + d) (bytes_of n v) s)
-
-pub puts_laid : (ns vs : List ℕ) (at d : ℕ) (s : List ℕ) → puts ns vs at d s ≡ put (at + d) (laid ns vs) s
-unfolding laid
-puts_laid [] vs at d s = sym (put_none (at + d) s)
-puts_laid (n ∷ ns) [] at d s = sym (put_none (at + d) s)
-puts_laid (n ∷ ns) (v ∷ vs) at d s =
-    let e : at + d + length (bytes_of n v) ≡ at + (d + n) = rw (bytes_length n v) (add_assoc at d n) in
-    puts_laid ns vs at (d + n) (put (at + d) (bytes_of n v) s)
-    ∙ ap (λ (k : ℕ). put k (laid ns vs) (put (at + d) (bytes_of n v) s)) (sym e) ∙ put_then (at + d) (bytes_of n v) (laid ns vs) s

@@ -9,10 +9,11 @@ ghost use Rattle.hbc_bits.specs.Bits.{field};
 ghost use Rattle.hbc_rows.specs.Rows.{entry_at, put_row};
 
 // Word `i` of a table, 0 where there is none.
+#[tactic(auto, unfolding(crate::specs::Rows::entry_at))]
 pub fn word_of(t: &[u32], i: usize) -> u32
     ensures { result ≡ entry_at t.now i }
 {
-    if i < t.len() { t[i] } else { 0 }
+    t.get(i).copied().unwrap_or(0)
 }
 
 // The `width` bits of a table's word from bit `first` up.
@@ -22,16 +23,12 @@ pub fn field_of(word: u32, first: u32, width: u32) -> u32
     hbc_bits::bits(word as u64, first, width) as u32
 }
 
-// Stores words that there is room for: no test in the loop.
+// Stores words that there is room for.
 fn store(t: &mut [u32], at: usize, row: &[u32])
     requires { at + length row.now ≤ length t.old }
     ensures { t.new ≡ sets t.old at row.now }
 {
-    let mut i: usize = 0;
-    while i < row.len() {
-        t[at + i] = row[i];
-        i += 1;
-    }
+    t[at..at + row.len()].copy_from_slice(row);
 }
 
 // Row `k` of the table, all rows being as wide as this one, if the table has such a row; else nothing is written.
@@ -54,12 +51,11 @@ pub fn put_words(t: &mut [u32], at: usize, row: &[u32])
     if t.len() < at {
         return;
     }
-    let mut i: usize = 0;
-    while i < row.len() {
-        if t.len() - at <= i {
-            return;
-        }
-        t[at + i] = row[i];
-        i += 1;
+    let room = t.len() - at;
+    if room < row.len() {
+        store(t, at, &row[..room]);
+        return;
     }
+    // the length is the caller's, and so a constant where the caller's row is an array
+    store(t, at, row);
 }

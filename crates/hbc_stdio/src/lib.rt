@@ -12,6 +12,7 @@ pub fn read_full<R: Read>(input: &mut R, buf: &mut [u8]) -> io::Result<usize>
     ensures { IfOk result (λ n. n ≤ length buf.new) }
 {
     let mut done: usize = 0;
+    // no `for`: how far it goes is what each read gave
     while done < buf.len() {
         let n = input.read(&mut buf[done..])?;
         if n == 0 {

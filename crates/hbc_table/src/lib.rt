@@ -7,20 +7,17 @@ ghost use Rattle.hbc_bits.specs.Bits.{le_at};
 ghost use Rattle.hbc_rows.specs.Rows.{filled};
 ghost use Rattle.hbc_table.specs.Table.{words_from, ReadWords, ReadTable};
 
-use hbc_io::{Cursor, LIMIT, Moved, refuse};
-
-fn wide(b: u8) -> u32
-    ensures { (result ≡ b) × (result < 256) }
-{
-    b as u32
-}
+use hbc_io::{Cursor, LIMIT, Moved, Reason, Stopped, refuse, stop};
 
 // The u32 at a place whose four bytes are there. As a sum it is compiled to one load.
+#[tactic(auto, using(crate::proofs::Laws::word_is))]
 fn word(s: &[u8], at: usize) -> u32
     requires { at + 4 ≤ length s.now }
     ensures { result ≡ le_at s.now at 4 }
 {
-    wide(s[at]) + 0x100 * (wide(s[at + 1]) + 0x100 * (wide(s[at + 2]) + 0x100 * wide(s[at + 3])))
+    u32::from(s[at])
+        + 0x100
+            * (u32::from(s[at + 1]) + 0x100 * (u32::from(s[at + 2]) + 0x100 * u32::from(s[at + 3])))
 }
 
 // The `n` words from `at` on, put in front of what the table holds.
@@ -28,34 +25,36 @@ fn fill(s: &[u8], at: usize, n: usize, table: &mut [u32])
     requires { (n ≤ length table.old) × (at + 4 * n ≤ length s.now) }
     ensures { table.new ≡ filled (words_from s.now at) n table.old }
 {
-    let mut i: usize = 0;
-    while i < n {
+    for i in 0..n {
         table[i] = word(s, at + 4 * i);
-        i += 1;
     }
 }
 
 // `n` words, in entries of `bytes` bytes each. Entries are of one size, so that one comparison finds the first that is cut.
+#[tactic(auto, unfolding(crate::specs::Table::words_at, hbc_io::specs::Lends::below))]
 fn read_words(s: &[u8], c: Cursor, n: usize, bytes: usize, table: &mut [u32]) -> Moved
     requires { (0 < bytes) × (n ≤ 2 ^ 33) }
     ensures { ReadWords bytes s.now c n table.old result table.new }
 {
     let at = c.at;
     if LIMIT < s.len() {
-        return Moved::Refused(refuse(1, 0), c);
+        return Err(stop(Reason::TooLong, c));
     }
     if s.len() < at {
-        return Moved::Refused(refuse(2, 0), c);
+        return Err(stop(Reason::PastEnd, c));
     }
     if table.len() < n {
-        return Moved::Refused(refuse(4, 0), c);
+        return Err(stop(Reason::TooFewRows, c));
     }
     let left = s.len() - at;
     if left < 4 * n {
-        return Moved::Refused(refuse(3, (left / bytes) as u32), c);
+        return Err(Stopped {
+            refusal: refuse(Reason::Cut as u32, (left / bytes) as u32),
+            cursor: c,
+        });
     }
     fill(s, at, n, table);
-    Moved::To(Cursor { at: at + 4 * n })
+    Ok(Cursor { at: at + 4 * n })
 }
 
 // `count` words: u32 tables and kind runs.

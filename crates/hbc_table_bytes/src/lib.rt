@@ -9,6 +9,7 @@ use hbc_rows::word_of;
 use hbc_table_strings::{STRING_BYTES, STRING_INVALID, STRING_START, STRING_WIDTH};
 
 // The span that row `index` says, whatever the storage.
+#[tactic(auto, using(crate::proofs::Laws::span_valid, crate::proofs::Laws::span_invalid, crate::proofs::Laws::span_none))]
 fn span_at(rows: &[u32], index: usize) -> Span
     ensures { result ≡ span_at rows.now index }
 {
@@ -25,6 +26,7 @@ fn span_at(rows: &[u32], index: usize) -> Span
 }
 
 // Where in the storage the string's bytes are; start and length 0 where there are none to hand back.
+#[tactic(auto, unfolding(crate::specs::StringBytes::string_span))]
 pub fn string_span(storage: &[u8], rows: &[u32], index: usize) -> Span
     ensures { result ≡ string_span storage.now rows.now index }
 {

@@ -1,6 +1,6 @@
 -- The laws that the loops cite.
-use Prim.Native.Nat.{ℕ, suc, ◌+◌, ◌-◌, ◌*◌, ◌/◌, ◌^◌, ◌≤◌, ◌<◌}
-use mathlib.Core.Path.{◌≡◌, refl, ap, sym, ◌∙◌}
+use Prim.Native.Nat.{ℕ, suc, ◌+◌, ◌*◌, ◌/◌, ◌≤◌, ◌<◌}
+use mathlib.Core.Path.{◌≡◌, refl, sym, ◌∙◌}
 use mathlib.Core.List.{List}
 use mathlib.Core.Bool.{Bool, true, false, cond}
 use native.Mathlib.Omega.{arith}
@@ -8,13 +8,11 @@ use native.Mathlib.Numerals.{add-one}
 use native.Mathlib.Decide.{le_ind}
 use lib.ListN.{length}
 use lib.Dec.{ltb, leb, eqb}
-use borrow.Author.Tests.{eq-eqb, ne_eqb, lt-ltb, le-ltb}
 use Rattle.hbc_io.specs.declared.Refusal.{Refusal}
 use Rattle.hbc_io.specs.Answer.{gives, refuses, refused_at, and_then}
 use Rattle.hbc_io.specs.Lends.{choose}
 use Rattle.hbc_rows.specs.Rows.{entry_at, put_row, put_rows}
-use Rattle.hbc_rows.proofs.Laws.{test_eq}
-use Rattle.hbc_rows.proofs.RowsAt.{rows_first, rows_length}
+use Rattle.hbc_rows.proofs.RowsAt.{rows_first}
 use Rattle.hbc_table_strings.specs.declared.Mode.{Mode}
 use Rattle.hbc_table_strings.specs.declared.Mode.TheVariants.{InOrder, Hermes}
 use Rattle.hbc_table_strings.specs.declared.entries.Entry.{Entry}
@@ -25,7 +23,7 @@ use Rattle.hbc_table_strings.specs.Hermes.{kind_in}
 use Rattle.hbc_table_strings.specs.Entries.{utf16, offset_of, long_one, pairs_taken, pair_taken, pair_of, lacks_pair, entry_of, bytes_of}
 use Rattle.hbc_table_strings.specs.Row.{string_width, string_words, row_for, row_with, row_of}
 use Rattle.hbc_table_strings.specs.Strings.{scan, words_of, decoded_rows, judged}
-use Rattle.hbc_table_strings.specs.Private.{next_full, passed_on, moved_in}
+use Rattle.hbc_table_strings.specs.Private.{passed_on, moved_in}
 use Rattle.hbc_table_strings.proofs.Runs.{HeldRightly, by_first, by_passed, by_kind, by_spent, passed_far}
 
 -- ---- one string more
@@ -47,46 +45,10 @@ scan_kept : (mode : Mode) (small : List ℕ) (pairs : ℕ) {r : Refusal} (i n : 
 unfolding scan
 scan_kept mode small pairs {r} i n h e = le_ind (λ (m : ℕ). scan mode small pairs m ≡ refuses r) e (λ m k p. rw p) n h
 
--- a run that has nothing left is spent as it is
-pub spent_none : (h : Held) → h.left ≡ 0 → h ≡ spent h
-spent_none h e =
-    let z : h.left ≡ h.left - 1 = omega arith in
-    ap (λ (n : ℕ). record { run = h.run; left = n }) z
-
 -- the run that is held is the one asked for
 pub held_run : (kinds : List ℕ) (run : ℕ) {h : Held} → h ≡ holding kinds run → h.run ≡ run
 unfolding holding
 held_run kinds run e = rw e
-
--- ---- the pair, and the mode's two choices
-
-pub lacks_long : {one p : ℕ} {b : Bool} (raw q pairs : ℕ) → one ≡ long_one raw → one ≡ 1 → p ≡ q → b ≡ leb pairs p → b ≡ lacks_pair raw q pairs
-unfolding lacks_pair
-lacks_long raw q pairs o e p r = rw (test_eq o e, ← p) r
-
-pub pair_in_order : {mode : Mode} {p : ℕ} (raw taken : ℕ) → mode ≡ InOrder → p ≡ taken → p ≡ pair_taken mode raw taken
-pair_in_order raw taken e q = rw e q
-
-pub pair_by_field : {mode : Mode} {p : ℕ} (raw taken : ℕ) → mode ≡ Hermes → p ≡ offset_of raw → p ≡ pair_taken mode raw taken
-pair_by_field raw taken e q = rw e q
-
-pub moved_kept : (mode : Mode) (kinds : List ℕ) (h : Held) → 0 < h.left → h ≡ moved_in mode kinds h
-unfolding moved_on passed_on
-moved_kept InOrder kinds h n = rw (ne_eqb h.left 0 (λ e. omega arith))
-moved_kept Hermes kinds h n = rw (ne_eqb h.left 0 (λ e. omega arith))
-
-pub moved_next : {mode : Mode} (kinds : List ℕ) (h : Held) {g : Held} → mode ≡ InOrder → h.left ≡ 0 → g ≡ holding kinds (h.run + 1) → g ≡ moved_in mode kinds h
-unfolding moved_on
-moved_next kinds h m z e = rw (m, eq-eqb h.left 0 z) e
-
-pub moved_passed : {mode : Mode} (kinds : List ℕ) {h g : Held} {n : ℕ} → mode ≡ Hermes → h.left ≡ 0 → h.run < length kinds → n ≡ next_full kinds (h.run + 1)
-    → g ≡ holding kinds n → g ≡ moved_in mode kinds h
-unfolding passed_on
-moved_passed kinds {h} m z l f e = rw (m, eq-eqb h.left 0 z, lt-ltb h.run (length kinds) l, ← f) e
-
-pub moved_last : {mode : Mode} (kinds : List ℕ) {h : Held} → mode ≡ Hermes → h.left ≡ 0 → length kinds ≤ h.run → h ≡ moved_in mode kinds h
-unfolding passed_on
-moved_last kinds {h} m z l = rw (m, eq-eqb h.left 0 z, le-ltb h.run (length kinds) l)
 
 -- ---- what is held before string i
 
@@ -98,10 +60,6 @@ holds_first : (mode : Mode) (kinds : List ℕ) {h : Held} → h ≡ holding kind
 unfolding held_at
 holds_first InOrder kinds e = (e, omega (arith, held_run kinds 0 e))
 holds_first Hermes kinds e = (rw e (by_first kinds), omega (arith, held_run kinds 0 e))
-
-holds_near : (mode : Mode) (kinds : List ℕ) (i : ℕ) (h : Held) → Holds mode kinds i h → i < 2 ^ 32 → length kinds * 4 < 2 ^ 63 → h.run < 2 ^ 62
-holds_near InOrder kinds i h v l m = omega (arith, v.1)
-holds_near Hermes kinds i h v l m = omega (arith, v.1)
 
 moved_far : (kinds : List ℕ) (h : Held) → (moved_on kinds h).run ≤ h.run + 1
 unfolding moved_on holding
@@ -151,9 +109,6 @@ module _ {mode : Mode} {small : List ℕ} {pairs i taken : ℕ} (v : Clear mode 
   clear_goes {raw} {one} a q e l m =
       record { so_far = step a q ∙ rw (e, add-one); counts = rw (taken_more, l, a, v.counts); few = omega (arith, v.few) }
 
-  pub clear_done : {n : ℕ} → i ≡ n → gives n ≡ scan mode small pairs n
-  clear_done h = rw (← h) (sym v.so_far)
-
 -- ---- what the writing loop knows before string i
 
 pub record Written (mode : Mode) (kinds small overflow : List ℕ) (storage i : ℕ) (held : Held) (taken : ℕ) (t₀ t : List ℕ) : Type 0 where
@@ -168,13 +123,6 @@ unfolding pairs_taken put_rows
 written_first {mode} {kinds} e = record { holds = holds_first mode kinds e; counts = refl; few = omega arith; is = refl }
 
 module _ {mode : Mode} {kinds small overflow : List ℕ} {storage i : ℕ} {held : Held} {taken : ℕ} {t₀ t : List ℕ} (v : Written mode kinds small overflow storage i held taken t₀ t) where
-  pub written_length : length t ≡ length t₀
-  written_length = rw v.is (rows_length string_width (words_of mode kinds small overflow storage) (λ j. omega arith) 0 t₀ i)
-
-  -- of runs that can be counted
-  pub written_near : i < 2 ^ 32 → length kinds * 4 < 2 ^ 63 → held.run < 2 ^ 62
-  written_near l m = holds_near mode kinds i held v.holds l m
-
   pub written_more : {raw kind one : ℕ} {h held' : Held} {r : StringRow} → raw ≡ entry_at small i → h ≡ moved_in mode kinds held → kind ≡ run_kind kinds h.run
       → r ≡ row_with raw kind overflow (pair_taken mode raw taken) storage → held' ≡ spent h → one ≡ long_one raw → one < 2
       → Written mode kinds small overflow storage (i + 1) held' (taken + one) t₀ (put_row string_width t i (string_words r))
@@ -188,9 +136,6 @@ module _ {mode : Mode} {kinds small overflow : List ℕ} {storage i : ℕ} {held
         few = omega (arith, v.few);
         is = rw (v.is, z) (rows_first string_width (words_of mode kinds small overflow storage) t₀ i);
       }
-
-  pub written_done : {m : ℕ} → i ≡ m → t ≡ decoded_rows mode kinds small overflow storage m t₀
-  written_done h = rw (← h) v.is
 
 -- ---- one entry by itself
 

@@ -1,19 +1,14 @@
 -- docs/FORMAT.md, section 4.5: decoding, a row for each string or a refusal.
-use Rattle.std.specs.Prelude.{ℕ, zero, suc, ◌/◌, List, cond, length, ltb}
+use Rattle.std.specs.Prelude.{ℕ, zero, suc, ◌/◌, List, Result, cond, length, ltb}
 use Rattle.hbc_io.specs.Outcome.{limit}
-use Rattle.hbc_io.specs.Answer.{Answer, gives, refuses, refused_at, and_then}
+use Rattle.hbc_io.specs.Answer.{Answer, gives, refused_at, and_then}
+use Rattle.hbc_io.specs.Answers.{answered}
 use Rattle.hbc_io.specs.Lends.{below, choose, Lends}
+use Rattle.hbc_io.specs.declared.Refusal.{Refusal}
 use Rattle.hbc_rows.specs.Rows.{entry_at, rows, put_rows}
-use Rattle.hbc_table_strings.specs.declared.Decoded.{Decoded}
-use Rattle.hbc_table_strings.specs.declared.Decoded.TheVariants.{Rows, Refused}
 use Rattle.hbc_table_strings.specs.declared.Mode.{Mode}
 use Rattle.hbc_table_strings.specs.Entries.{offset_of, pair_of, lacks_pair}
 use Rattle.hbc_table_strings.specs.Row.{string_words, string_width, row_with, row_of}
-
--- how many rows, or the refusal
-abbrev pub says_decoded : Decoded → Answer ℕ
-says_decoded (Rows n) = gives n
-says_decoded (Refused r) = refuses r
 
 -- the first n strings in order: 8 at the first whose pair is not there
 unfoldable pub scan : Mode → List ℕ → ℕ → ℕ → Answer ℕ
@@ -41,9 +36,9 @@ abbrev pub decoded_rows : Mode → List ℕ → List ℕ → List ℕ → ℕ �
 decoded_rows mode kinds small overflow storage n table = put_rows string_width (words_of mode kinds small overflow storage) 0 n table
 
 -- the promise: the answer, and the rows
-abbrev pub DecodeStrings : Mode → ℕ → List ℕ → List ℕ → List ℕ → List ℕ → List ℕ → Decoded → List ℕ → Type 0
+abbrev pub DecodeStrings : Mode → ℕ → List ℕ → List ℕ → List ℕ → List ℕ → List ℕ → Result ℕ Refusal → List ℕ → Type 0
 DecodeStrings mode count kinds small overflow storage before =
-    Lends says_decoded (decode_answer mode count small overflow storage before)
+    Lends answered (decode_answer mode count small overflow storage before)
     (decoded_rows mode kinds small overflow (length storage) (lesser count (length small)) before) before
 
 -- ---- one small entry by itself, in Hermes mode: no other string has a say in it, nor has its kind

@@ -13,6 +13,7 @@ pub struct Entry {
 }
 
 // 1 where the units are of two bytes.
+#[tactic(auto, using(hbc_bits::proofs::Laws::field_lt))]
 pub(crate) fn utf16(raw: u32) -> u32
     ensures { (result ≡ utf16 raw) × (result < 2) }
 {
@@ -32,6 +33,7 @@ fn units_of(raw: u32) -> u32
 }
 
 // 1 where the entry takes an overflow pair.
+#[tactic(auto, unfolding(crate::specs::Entries::long_one))]
 pub(crate) fn long_one(raw: u32) -> usize
     ensures { (result ≡ long_one raw) × (result < 2) }
 {
@@ -52,6 +54,7 @@ fn pair_taken(mode: Mode, raw: u32, taken: usize) -> usize
 }
 
 // Only a long entry, as few are, asks for the mode.
+#[tactic(auto, unfolding(crate::specs::Entries::lacks_pair))]
 pub(crate) fn lacks_pair(mode: Mode, raw: u32, taken: usize, pairs: usize) -> bool
     ensures { result ≡ lacks_pair raw (pair_taken mode raw taken) pairs }
 {
@@ -61,6 +64,7 @@ pub(crate) fn lacks_pair(mode: Mode, raw: u32, taken: usize, pairs: usize) -> bo
     false
 }
 
+#[tactic(auto, unfolding(crate::specs::Entries::pair_at, hbc_rows::specs::Rows::entry_at))]
 fn pair_at(overflow: &[u32], p: usize) -> Entry
     ensures { result ≡ pair_at overflow.now p }
 {
@@ -73,6 +77,7 @@ fn pair_at(overflow: &[u32], p: usize) -> Entry
     Entry { start: 0, units: 0 }
 }
 
+#[tactic(auto, unfolding(crate::specs::Entries::entry_of))]
 pub(crate) fn entry_of(mode: Mode, raw: u32, overflow: &[u32], taken: usize) -> Entry
     ensures { result ≡ entry_of raw overflow.now (pair_taken mode raw taken) }
 {
@@ -85,6 +90,7 @@ pub(crate) fn entry_of(mode: Mode, raw: u32, overflow: &[u32], taken: usize) -> 
     }
 }
 
+#[tactic(auto, unfolding(crate::specs::Entries::bytes_of))]
 pub(crate) fn bytes_of(raw: u32, units: u32) -> usize
     ensures { (result ≡ bytes_of raw units) × (result < 2 ^ 33) }
 {

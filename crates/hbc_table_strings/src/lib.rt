@@ -3,8 +3,8 @@
 #![tactic(auto)]
 
 ghost use Rattle.std.specs.Prelude.{◌≡◌, ◌≤◌, ◌<◌, ◌^◌};
-ghost use Rattle.hbc_table_strings.specs.Strings.{says_decoded, scan, decoded_rows, lesser, DecodeStrings, judged};
-ghost use Rattle.hbc_table_strings.specs.Row.{row_for};
+ghost use Rattle.hbc_io.specs.Answers.{answered};
+ghost use Rattle.hbc_table_strings.specs.Strings.{scan, decoded_rows, lesser, DecodeStrings, judged};
 
 mod entries;
 mod kinds;
@@ -12,8 +12,8 @@ mod row;
 
 use crate::entries::{bytes_of, entry_of, lacks_pair, long_one};
 use crate::kinds::{holding, moved_on, run_kind, spent};
-use crate::row::{put_string, row_with};
-use hbc_io::{LIMIT, Refusal, refuse};
+use crate::row::{is_inside, put_string, row_with};
+use hbc_io::{LIMIT, Reason, Refusal, refuse};
 use hbc_rows::word_of;
 
 // The words of a string's row, and which they are.
@@ -34,29 +34,20 @@ pub enum Mode {
     Hermes,
 }
 
-#[derive(Clone, Copy)]
-pub enum Decoded {
-    // so many rows were written
-    Rows(usize),
-    Refused(Refusal),
-}
-
-// The first pass: the first of the `n` strings whose pair is not there.
-fn check(mode: Mode, n: usize, small: &[u32], pairs: usize) -> Decoded
+// The first pass: `n`, or the first of the `n` strings whose pair is not there.
+fn check(mode: Mode, n: usize, small: &[u32], pairs: usize) -> Result<usize, Refusal>
     requires { n < 2 ^ 32 }
-    ensures { says_decoded result ≡ scan mode small.now pairs n }
+    ensures { answered result ≡ scan mode small.now pairs n }
 {
     let mut needed: usize = 0;
-    let mut i: usize = 0;
-    while i < n {
+    for i in 0..n {
         let raw = word_of(small, i);
         if lacks_pair(mode, raw, needed, pairs) {
-            return Decoded::Refused(refuse(8, i as u32));
+            return Err(refuse(Reason::NoOverflowPair as u32, i as u32));
         }
         needed += long_one(raw);
-        i += 1;
     }
-    Decoded::Rows(n)
+    Ok(n)
 }
 
 // The second pass: row by row, and nothing can be refused.
@@ -74,28 +65,18 @@ fn write(
 {
     let mut held = holding(kinds, 0);
     let mut taken: usize = 0;
-    let mut i: usize = 0;
-    while i < n {
+    for i in 0..n {
         let raw = word_of(small, i);
         let h = moved_on(mode, kinds, held);
         let kind = run_kind(kinds, h.run);
         put_string(rows, i, row_with(mode, raw, kind, overflow, taken, storage));
         held = spent(h);
         taken += long_one(raw);
-        i += 1;
     }
 }
 
-fn lesser(count: u32, lent: usize) -> usize
-    ensures { (result ≡ lesser count lent) × (result < 2 ^ 32) }
-{
-    if (count as usize) < lent {
-        return count as usize;
-    }
-    lent
-}
-
-// A row (row.rt) for each string. Runs, pairs and rows are lent as words.
+// A row (row.rt) for each string; the answer is how many. Runs, pairs and rows are lent as words.
+#[tactic(auto, unfolding(crate::specs::Strings::decode_answer, crate::specs::Strings::lesser, hbc_io::specs::Lends::below))]
 pub fn decode_strings(
     mode: Mode,
     count: u32,
@@ -104,39 +85,25 @@ pub fn decode_strings(
     overflow: &[u32],
     storage: &[u8],
     rows: &mut [u32],
-) -> Decoded
+) -> Result<usize, Refusal>
     ensures { DecodeStrings mode count kinds.now small.now overflow.now storage.now
         rows.old result rows.new }
 {
-    let n = lesser(count, small.len());
+    let n = (count as usize).min(small.len());
     if LIMIT < storage.len() {
-        return Decoded::Refused(refuse(1, 0));
+        return Err(refuse(Reason::TooLong as u32, 0));
     }
     if rows.len() / STRING_WIDTH < n {
-        return Decoded::Refused(refuse(4, 0));
+        return Err(refuse(Reason::TooFewRows as u32, 0));
     }
-    let found = check(mode, n, small, overflow.len() / 2);
-    if let Decoded::Rows(_) = found {
-        write(mode, n, kinds, small, overflow, storage.len(), rows);
-    }
-    found
+    let count = check(mode, n, small, overflow.len() / 2)?;
+    write(mode, n, kinds, small, overflow, storage.len(), rows);
+    Ok(count)
 }
 
-// Whether a string lies in the storage, by where it starts and its bytes: 0 valid, 1 not.
-fn outside(start: u32, bytes: usize, storage: usize) -> u32
-    requires { bytes < 2 ^ 33 }
-    ensures { result ≡ (row_for start bytes 0 storage).invalid }
-{
-    let from = start as usize;
-    if from < storage {
-        if from + bytes <= storage {
-            return 0;
-        }
-    }
-    1
-}
-
-// One small entry by itself in Hermes mode: 0 valid, 1 invalid, 2 where its pair is not there.
+// One small entry by itself in Hermes mode: 0 valid, 1 invalid, 2 where its pair is not there. A number, as docs/PROMISES.md has it: `judged` is one, the
+// third word of a row or 2.
+#[tactic(auto, using(crate::proofs::Laws::judged_lacking))]
 pub fn judge_entry(raw: u32, overflow: &[u32], storage: usize) -> u32
     ensures { result ≡ judged raw overflow.now storage }
 {
@@ -144,5 +111,8 @@ pub fn judge_entry(raw: u32, overflow: &[u32], storage: usize) -> u32
         return 2;
     }
     let e = entry_of(Mode::Hermes, raw, overflow, 0);
-    outside(e.start, bytes_of(raw, e.units), storage)
+    if is_inside(e.start, bytes_of(raw, e.units), storage) {
+        return 0;
+    }
+    1
 }

@@ -1,8 +1,8 @@
 // The row of a string: four words, by name, and where it stands in the lent rows.
-ghost use Rattle.std.specs.Prelude.{◌≡◌, ◌≤◌, ◌<◌, ◌^◌};
+ghost use Rattle.std.specs.Prelude.{ℕ, ◌≡◌, true, cond, ◌≤◌, ◌<◌, ◌^◌};
 ghost use Rattle.hbc_rows.specs.Rows.{put_row};
 ghost use Rattle.hbc_table_strings.specs.Entries.{pair_taken};
-ghost use Rattle.hbc_table_strings.specs.Row.{string_width, string_words, row_for, row_with};
+ghost use Rattle.hbc_table_strings.specs.Row.{string_width, string_words, valid, invalid, row_for, row_with};
 
 use crate::Mode;
 use crate::entries::{bytes_of, entry_of, utf16};
@@ -24,20 +24,32 @@ pub(crate) fn put_string(rows: &mut [u32], k: usize, row: StringRow)
     put_row(rows, k, &words);
 }
 
+// Whether a string lies in the storage, by where it starts and its bytes.
+#[tactic(auto, unfolding(crate::specs::Row::row_for))]
+pub(crate) fn is_inside(start: u32, bytes: usize, storage: usize) -> bool
+    requires { bytes < 2 ^ 33 }
+    ensures fits { result ≡ true → bytes ≤ storage }
+    ensures row { (marks : ℕ) → row_for start bytes marks storage ≡ cond result (valid start bytes marks) (invalid marks) }
+{
+    let from = start as usize;
+    if from < storage {
+        return from + bytes <= storage;
+    }
+    false
+}
+
+// That a storage is so small is said of a number in three functions, one behind the other: a type of it would be taken apart where it is made.
 fn row_for(start: u32, bytes: usize, marks: u32, storage: usize) -> StringRow
     requires { (storage ≤ 2 ^ 30) × (bytes < 2 ^ 33) }
     ensures { result ≡ row_for start bytes marks storage }
 {
-    let from = start as usize;
-    if from < storage {
-        if from + bytes <= storage {
-            return StringRow {
-                start,
-                bytes: bytes as u32,
-                invalid: 0,
-                marks,
-            };
-        }
+    if is_inside(start, bytes, storage) {
+        return StringRow {
+            start,
+            bytes: bytes as u32,
+            invalid: 0,
+            marks,
+        };
     }
     StringRow {
         start: 0,
@@ -47,6 +59,7 @@ fn row_for(start: u32, bytes: usize, marks: u32, storage: usize) -> StringRow
     }
 }
 
+#[tactic(auto, unfolding(crate::specs::Row::row_with))]
 pub(crate) fn row_with(
     mode: Mode,
     raw: u32,

@@ -1,15 +1,16 @@
 -- docs/FORMAT.md, section 4.8: one string's text, by its row.
-use Rattle.std.specs.Prelude.{ℕ, suc, ◌%◌, List, Bool, cond, length, eqb}
+use Rattle.std.specs.Prelude.{ℕ, suc, ◌%◌, List, Bool, cond, length, eqb, Result}
 use Rattle.hbc_io.specs.Outcome.{limit}
 use Rattle.hbc_io.specs.Answer.{Answer, refused_at}
 use Rattle.hbc_io.specs.Lends.{below, Lends}
+use Rattle.hbc_io.specs.Answers.{answered}
+use Rattle.hbc_io.specs.declared.Refusal.{Refusal}
 use Rattle.hbc_rows.specs.Rows.{rows, row_at}
 use Rattle.hbc_table_strings.specs.Row.{string_width, string_row}
 use Rattle.hbc_table_bytes.specs.StringBytes.{string_bytes}
-use Rattle.hbc_text_forms.specs.declared.Text.{Text}
 use Rattle.hbc_text_forms.specs.Utf8.{utf8_text}
 use Rattle.hbc_text_forms.specs.Utf16.{utf16_text}
-use Rattle.hbc_text_forms.specs.Text.{says_text, text_answer, over}
+use Rattle.hbc_text_forms.specs.Text.{text_answer, over}
 
 -- bit 0 of the marks alone says UTF-16
 unfoldable pub is_wide : List ℕ → ℕ → Bool
@@ -27,5 +28,5 @@ string_text_answer s t k room =
     (text_answer (string_text s t k) room))
 
 -- the promise: its length, and the text in front of what is lent
-abbrev pub StringText : List ℕ → List ℕ → ℕ → List ℕ → Text → List ℕ → Type 0
-StringText s t k before = Lends says_text (string_text_answer s t k (length before)) (over (string_text s t k) before) before
+abbrev pub StringText : List ℕ → List ℕ → ℕ → List ℕ → Result ℕ Refusal → List ℕ → Type 0
+StringText s t k before = Lends answered (string_text_answer s t k (length before)) (over (string_text s t k) before) before

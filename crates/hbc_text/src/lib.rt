@@ -5,7 +5,7 @@ ghost use Rattle.std.specs.Prelude.{◌≡◌, ◌+◌, ◌*◌, ◌≤◌, leng
 ghost use Rattle.hbc_table_strings.specs.Row.{string_width};
 ghost use Rattle.hbc_text.specs.StringText.{is_wide, StringText};
 
-use hbc_io::{LIMIT, refuse};
+use hbc_io::{LIMIT, Reason, refuse};
 use hbc_rows::word_of;
 use hbc_table_bytes::string_bytes;
 use hbc_table_strings::{STRING_MARKS, STRING_WIDTH};
@@ -14,6 +14,7 @@ use hbc_text_utf8::utf8_text;
 use hbc_text_utf16::utf16_text;
 
 // Whether row `index` is marked as UTF-16.
+#[tactic(auto, using(crate::proofs::Laws::mark_is))]
 fn is_wide(rows: &[u32], index: usize) -> bool
     requires { index * string_width + string_width ≤ length rows.now }
     ensures { result ≡ is_wide rows.now index }
@@ -22,6 +23,7 @@ fn is_wide(rows: &[u32], index: usize) -> bool
 }
 
 // Whether row `index` is there and marked as UTF-16.
+#[tactic(auto, using(crate::proofs::Laws::mark_none))]
 pub fn is_marked(rows: &[u32], index: usize) -> bool
     ensures { result ≡ is_wide rows.now index }
 {
@@ -32,14 +34,15 @@ pub fn is_marked(rows: &[u32], index: usize) -> bool
 }
 
 // The text in front of what is lent, whole or not at all.
+#[tactic(auto, using(crate::proofs::Laws::too_long, crate::proofs::Laws::no_row))]
 pub fn string_text(storage: &[u8], rows: &[u32], index: usize, out: &mut [u8]) -> Text
     ensures { StringText storage.now rows.now index out.old result out.new }
 {
     if LIMIT < storage.len() {
-        return Text::Refused(refuse(1, 0));
+        return Err(refuse(Reason::TooLong as u32, 0));
     }
     if rows.len() / STRING_WIDTH <= index {
-        return Text::Refused(refuse(11, 0));
+        return Err(refuse(Reason::TooFewToRead as u32, 0));
     }
     let bytes = string_bytes(storage, rows, index);
     if is_wide(rows, index) {

@@ -9,5 +9,4 @@ pub mod Wide
 pub mod Bounds
 pub mod Counting
 pub mod Writing
-pub mod Alone
 pub mod Exits

@@ -3,9 +3,5 @@
 
 use hbc_io::Refusal;
 
-#[derive(Clone, Copy)]
-pub enum Text {
-    // so many bytes were written
-    Length(usize),
-    Refused(Refusal),
-}
+// How many bytes were written.
+pub type Text = Result<usize, Refusal>;

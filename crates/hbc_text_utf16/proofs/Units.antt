@@ -36,9 +36,6 @@ in_from a z u e = let x = both (leb a u) (leb u z) e in (leb-true a u x.0, leb-t
 pub surrogate_from : (u : ℕ) {w : Bool} → w ≡ is_surrogate u → w ≡ true → 0xD800 ≤ u
 surrogate_from u e h = (in_from 0xD800 0xDFFF u (sym e ∙ h)).0
 
-pub low_from : (u : ℕ) {w : Bool} → w ≡ is_low u → w ≡ true → 0xDC00 ≤ u
-low_from u e h = (in_from 0xDC00 0xDFFF u (sym e ∙ h)).0
-
 not_high : (u : ℕ) → is_surrogate u ≡ false → (u < 0xD800) ⊎ (0xD800 ≤ u) → (u < 0xE000) ⊎ (0xE000 ≤ u) → is_high u ≡ false
 not_high u e (inl a) _ = sym (out_below 0xD800 0xDBFF u a)
 not_high u e (inr a) (inl b) = no (sym e ∙ sym (in_is 0xD800 0xDFFF u a (omega arith)))

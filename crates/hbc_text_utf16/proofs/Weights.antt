@@ -119,10 +119,10 @@ module _ (s : List ℕ) (at before n : ℕ) (m : Weighing s at before n) where
         let z : weights before (units (drop at s)) ≡ k + weights u (units (drop (at + 2) s)) = rw (units_at s at (two_left s at m.between h), ← e, q) in
         omega (arith, m.sum)
 
-    pub weigh_more : Weighing s (at + 2) u (n + k)
-    weigh_more =
+    pub weigh_more : (j : ℕ) → j ≡ at + 2 → Weighing s j u (n + k)
+    weigh_more j f =
         let t = two_left s at m.between h in
-        record { between = record { inside = t; even = omega (arith, m.between.even) }; sum = more_sum }
+        rw f (record { between = record { inside = t; even = omega (arith, m.between.even) }; sum = more_sum })
 
     pub weigh_room : n + k ≤ length (text_of s)
     weigh_room = omega (arith, more_sum)

@@ -4,12 +4,13 @@
 ghost use Rattle.std.specs.Prelude.{◌≡◌, ◌+◌, ◌%◌, ◌≤◌, ◌<◌, leb, length};
 ghost use Rattle.std.proofs.lemmas.List.Edits.{sets};
 ghost use Rattle.hbc_io.specs.Outcome.{limit};
+ghost use Rattle.hbc_io.specs.Answers.{answered};
 ghost use Rattle.hbc_text_forms.specs.Scalars.{encode};
 ghost use Rattle.hbc_text_forms.specs.Utf16.{is_high, is_low, is_surrogate, utf16_text};
-ghost use Rattle.hbc_text_forms.specs.Text.{says_text, over, put_answer, PutText};
+ghost use Rattle.hbc_text_forms.specs.Text.{over, put_answer, PutText};
 ghost use Rattle.hbc_text_utf16.specs.Private.{unit_at, code_at, text_of, weight_of};
 
-use hbc_io::{LIMIT, refuse};
+use hbc_io::{LIMIT, Reason, refuse};
 use hbc_text_forms::Text;
 
 // One scalar value, and how many bytes it was read from.
@@ -19,17 +20,11 @@ struct Code {
     scalar: u32,
 }
 
-fn wide(b: u8) -> u32
-    ensures { (result ≡ b) × (result < 256) }
-{
-    b as u32
-}
-
 fn unit(s: &[u8], at: usize) -> u32
     requires { at + 2 ≤ length s.now }
     ensures { (result ≡ unit_at s.now at) × (result < 65536) }
 {
-    wide(s[at]) + 256 * wide(s[at + 1])
+    u32::from(s[at]) + 256 * u32::from(s[at + 1])
 }
 
 fn is_surrogate(u: u32) -> bool
@@ -149,32 +144,23 @@ fn weight(before: u32, u: u32) -> usize
     3
 }
 
-// How many bytes the text has, counted unit by unit without a branch.
+// How many bytes the text has, counted unit by unit without a branch. That there are whole units is said in three functions: a type would have to say of
+// each byte besides that it is one, which the slice's own type says here.
 fn counted(s: &[u8]) -> usize
     requires { (length s.now % 2 ≡ 0) × (length s.now ≤ limit) }
     ensures { result ≡ length (text_of s.now) }
 {
-    let mut at: usize = 0;
     let mut before: u32 = 0;
     let mut n: usize = 0;
-    while at < s.len() {
-        let u = unit(s, at);
+    for i in 0..s.len() / 2 {
+        let u = unit(s, 2 * i);
         n += weight(before, u);
         before = u;
-        at += 2;
     }
     n
 }
 
-// Whether the text has at most so many bytes.
-fn measure(s: &[u8], room: usize) -> bool
-    requires { (length s.now % 2 ≡ 0) × (length s.now ≤ limit) }
-    ensures { result ≡ leb (length (text_of s.now)) room }
-{
-    counted(s) <= room
-}
-
-// A text has at most three bytes for each unit: where there is room for those, none are counted.
+// Whether the text fits the room. It has at most three bytes for each unit: where there is room for those, none are counted.
 fn enough(s: &[u8], room: usize) -> bool
     requires { (length s.now % 2 ≡ 0) × (length s.now ≤ limit) }
     ensures { result ≡ leb (length (text_of s.now)) room }
@@ -182,7 +168,7 @@ fn enough(s: &[u8], room: usize) -> bool
     if s.len() / 2 <= room / 3 {
         return true;
     }
-    measure(s, room)
+    counted(s) <= room
 }
 
 // The text of an even number of bytes, for which there is room. ASCII and what is no surrogate have their own arms for speed.
@@ -192,6 +178,7 @@ fn put_text(s: &[u8], d: &mut [u8]) -> usize
 {
     let mut at: usize = 0;
     let mut n: usize = 0;
+    // the next place is behind a unit or behind a pair
     while at < s.len() {
         let u = unit(s, at);
         if u < 0x80 {
@@ -211,35 +198,37 @@ fn put_text(s: &[u8], d: &mut [u8]) -> usize
 }
 
 // What utf16_text answers into so much room, nothing being written.
+#[tactic(auto, using(crate::proofs::Whole::length_long, crate::proofs::Whole::length_odd, crate::proofs::Whole::length_small, crate::proofs::Whole::length_is))]
 pub fn utf16_length(s: &[u8], room: usize) -> Text
-    ensures { says_text result ≡ put_answer (utf16_text s.now) s.now room }
+    ensures { answered result ≡ put_answer (utf16_text s.now) s.now room }
 {
     if LIMIT < s.len() {
-        return Text::Refused(refuse(1, 0));
+        return Err(refuse(Reason::TooLong as u32, 0));
     }
     if s.len() % 2 != 0 {
-        return Text::Length(0);
+        return Ok(0);
     }
     let n = counted(s);
     if room < n {
-        return Text::Refused(refuse(4, 0));
+        return Err(refuse(Reason::TooFewRows as u32, 0));
     }
-    Text::Length(n)
+    Ok(n)
 }
 
 // The text of bytes in UTF-16 little-endian in front of what is lent, whole or not at all.
+#[tactic(auto, using(crate::proofs::Whole::wide_long, crate::proofs::Whole::wide_room, crate::proofs::Whole::wide_small))]
 pub fn utf16_text(s: &[u8], d: &mut [u8]) -> Text
     ensures { PutText (utf16_text s.now) s.now d.old result d.new }
 {
     if LIMIT < s.len() {
-        return Text::Refused(refuse(1, 0));
+        return Err(refuse(Reason::TooLong as u32, 0));
     }
     // an odd number of bytes has the empty text
     if s.len() % 2 != 0 {
-        return Text::Length(0);
+        return Ok(0);
     }
     if enough(s, d.len()) {
-        return Text::Length(put_text(s, d));
+        return Ok(put_text(s, d));
     }
-    Text::Refused(refuse(4, 0))
+    Err(refuse(Reason::TooFewRows as u32, 0))
 }

@@ -1,47 +1,36 @@
 -- Bytes copied: one by one, and in eights of which the last may be stored over some that are there.
 use Prim.Native.Nat.{ℕ, suc, ◌+◌, ◌-◌, ◌≤◌, ◌<◌}
 use mathlib.Core.Path.{◌≡◌, refl, sym, ap, ◌∙◌}
-use mathlib.Core.List.{List, [], ◌∷◌}
-use native.Mathlib.Nat.{add-zero}
+use mathlib.Core.List.{List, [], ◌∷◌, ◌++◌, append-nil}
+use native.Mathlib.Nat.{zero-add}
 use native.Mathlib.Omega.{arith}
-use lib.ListN.{length, get_or, set, take, drop, length-drop}
-use lib.Dec.{lit<, lit≤}
-use lib.Seq.{sets, length-sets, length-take-le, take-add, drop-cons, drop-drop, set-set, set_comm}
-use Rattle.hbc_rows.proofs.Words.{sets_append}
+use lib.ListN.{length, get_or, set, take, drop, length-drop, drop_of_length-le}
+use lib.Seq.{sets, sets-eq, length-take-le, take-add, take_all, drop-cons, drop-drop, set-set, set_comm}
+use borrow.Rule.Slice.PartMut.{put_mid}
+use Rattle.hbc_rows.proofs.Words.{sets_append, copied}
 
--- i elements of s from a place on were stored from another on
-pub record Copied (s before : List ℕ) (from n at i : ℕ) (d : List ℕ) : Type 0 where
-  pub counted : i ≤ n
-  pub is : d ≡ sets before at (take i (drop from s))
+-- i elements of s from a place on were stored from there on
+pub record Copied (s before : List ℕ) (at i : ℕ) (d : List ℕ) : Type 0 where
+  pub counted : at + i ≤ length s
+  pub is : d ≡ sets before at (take i (drop at s))
 
-pub copy_first : (s before : List ℕ) (from n at : ℕ) → Copied s before from n at 0 before
-copy_first s before from n at = record { counted = omega arith; is = refl }
+pub copy_first : (s before : List ℕ) (at : ℕ) → at ≤ length s → Copied s before at 0 before
+copy_first s before at h = record { counted = omega arith; is = refl }
 
-module _ (s before : List ℕ) (from n at i : ℕ) {d : List ℕ} (c : Copied s before from n at i d) where
-  pub copy_length : length d ≡ length before
-  copy_length = ap length c.is ∙ length-sets before at (take i (drop from s))
-
-  pub copy_after : (j : ℕ) (vs : List ℕ) {x : List ℕ} → x ≡ sets d j vs → length x ≡ length before
-  copy_after j vs e = ap length e ∙ length-sets d j vs ∙ copy_length
-
+module _ (s before : List ℕ) (at i : ℕ) {d : List ℕ} (c : Copied s before at i d) where
   -- the next k of them
-  pub copy_next : (k : ℕ) {x : List ℕ} → i + k ≤ n → from + n ≤ length s → x ≡ sets d (at + i) (take k (drop (from + i) s)) → Copied s before from n at (i + k) x
-  copy_next k h l e =
-      let m : length (take i (drop from s)) ≡ i = length-take-le i (drop from s) (rw (length-drop from s) (omega arith)) in
-      let q : sets before at (take (i + k) (drop from s)) ≡ sets (sets before at (take i (drop from s))) (at + i) (take k (drop (from + i) s)) =
-      ap (λ (x : List ℕ). sets before at x) (take-add i k (drop from s))
-      ∙ sets_append (take i (drop from s)) (take k (drop i (drop from s))) before at
-      ∙ rw (m, drop-drop i from s) in
-      record { counted = h; is = e ∙ rw (c.is, q) }
+  pub copy_next : (k : ℕ) {j : ℕ} {x : List ℕ} → j ≡ at + i → j + k ≤ length s → x ≡ sets d j (take k (drop j s)) → Copied s before at (i + k) x
+  copy_next k {j} p h e =
+      let m : length (take i (drop at s)) ≡ i = length-take-le i (drop at s) (rw (length-drop at s) (omega arith)) in
+      let q : sets before at (take (i + k) (drop at s)) ≡ sets (sets before at (take i (drop at s))) j (take k (drop j s)) =
+      ap (λ (x : List ℕ). sets before at x) (take-add i k (drop at s))
+      ∙ sets_append (take i (drop at s)) (take k (drop i (drop at s))) before at
+      ∙ rw (m, drop-drop i at s, p) in
+      record { counted = omega arith; is = e ∙ rw (c.is, q) }
 
   -- one
-  pub copy_one : i < n → from + n ≤ length s → Copied s before from n at (i + 1) (set d (at + i) (get_or s (from + i) 0))
-  copy_one h l = copy_next 1 (omega arith) l (sym (rw (drop-cons s (from + i) 0 (omega arith))))
-
-  pub copy_end : n ≤ i → d ≡ sets before at (take n (drop from s))
-  copy_end h =
-      let e : i ≡ n = omega (arith, c.counted) in
-      rw (← e) c.is
+  pub copy_one : {j : ℕ} → j ≡ at + i → j < length s → Copied s before at (i + 1) (set d j (get_or s j 0))
+  copy_one {j} p h = copy_next 1 p (omega arith) (sym (rw (drop-cons s j 0 h)))
 
 -- ---- stored over what is there
 
@@ -57,37 +46,44 @@ sets_over (a ∷ vs) (b ∷ ws) l i h =
     ap (λ (m : List ℕ). sets m (suc i) ws) (set_below vs (set l i a) (suc i) i b (omega arith) ∙ ap (λ (m : List ℕ). sets m (suc i) vs) (set-set l i a b))
     ∙ sets_over vs ws (set l i b) (suc i) (omega arith)
 
--- the last k, of which some were there
-pub copy_last : (s before : List ℕ) (from n at i last k : ℕ) {d x : List ℕ} → Copied s before from n at i d → last ≤ i → n ≡ last + k → from + n ≤ length s
-    → x ≡ sets d (at + last) (take k (drop (from + last) s)) → x ≡ sets before at (take n (drop from s))
-copy_last s before from n at i last k {d} {x} c h m l e =
-    let u : i ≤ n = c.counted in
-    let t : List ℕ = drop from s in
-    let j : i ≡ last + (i - last) = omega arith in
-    let f : length (take last t) ≡ last = length-take-le last t (rw (length-drop from s) (omega arith)) in
-    let v : length (drop last t) ≡ length s - (from + last) = rw (drop-drop last from s) (length-drop (from + last) s) in
-    let p : length (take (i - last) (drop last t)) ≡ i - last = length-take-le (i - last) (drop last t) (omega arith) in
-    let q : length (take k (drop last t)) ≡ k = length-take-le k (drop last t) (omega arith) in
-    let b : List ℕ = sets before at (take last t) in
-    let y : d ≡ sets b (at + last) (take (i - last) (drop last t)) =
-    c.is ∙ ap (λ (z : ℕ). sets before at (take z t)) j ∙ ap (λ (z : List ℕ). sets before at z) (take-add last (i - last) t)
-    ∙ sets_append (take last t) (take (i - last) (drop last t)) before at ∙ rw f in
-    let w : sets before at (take n t) ≡ sets b (at + last) (take k (drop last t)) =
-    rw m (ap (λ (z : List ℕ). sets before at z) (take-add last k t) ∙ sets_append (take last t) (take k (drop last t)) before at ∙ rw f) in
-    e ∙ rw (y, ← drop-drop last from s) (sets_over (take (i - last) (drop last t)) (take k (drop last t)) b (at + last) (omega arith)) ∙ sym w
+-- stored over all
+sets_whole : (vs before : List ℕ) → length before ≡ length vs → sets before 0 vs ≡ vs
+sets_whole vs before e =
+    let k : length before ≤ 0 + length vs = omega arith in
+    sets-eq vs before 0 (omega arith) ∙ ap (λ (u : List ℕ). vs ++ u) (drop_of_length-le before k) ∙ append-nil vs
 
--- ---- eight bytes one after another
+module _ (s before : List ℕ) (i : ℕ) {d : List ℕ} (c : Copied s before 0 i d) (w : length before ≡ length s) where
+  pub copy_end : length s ≤ i → d ≡ s
+  copy_end h =
+      let e : i ≡ length s = omega (arith, c.counted) in
+      let t : d ≡ sets before 0 (take (length s) s) = rw (← e) c.is in
+      t ∙ ap (λ (x : List ℕ). sets before 0 x) (take_all (length s) s (omega arith)) ∙ sets_whole s before w
 
-pub eight_stored : (s d : List ℕ) (from at : ℕ) → from + 8 ≤ length s
-    → set (set (set (set (set (set (set (set d at (get_or s from 0)) (at + 1) (get_or s (from + 1) 0)) (at + 2) (get_or s (from + 2) 0)) (at + 3) (get_or s (from + 3) 0))
-    (at + 4) (get_or s (from + 4) 0)) (at + 5) (get_or s (from + 5) 0)) (at + 6) (get_or s (from + 6) 0)) (at + 7) (get_or s (from + 7) 0)
-    ≡ sets d at (take 8 (drop from s))
-eight_stored s d from at h =
-    let c1 : Copied s d from 8 at 1 (set d at (get_or s from 0)) = rw (add-zero at, add-zero from) at (copy_one s d from 8 at 0 (copy_first s d from 8 at) (lit< tt) h) in
-    let c2 = copy_one s d from 8 at 1 c1 (lit< tt) h in
-    let c3 = copy_one s d from 8 at 2 c2 (lit< tt) h in
-    let c4 = copy_one s d from 8 at 3 c3 (lit< tt) h in
-    let c5 = copy_one s d from 8 at 4 c4 (lit< tt) h in
-    let c6 = copy_one s d from 8 at 5 c5 (lit< tt) h in
-    let c7 = copy_one s d from 8 at 6 c6 (lit< tt) h in
-    copy_end s d from 8 at 8 (copy_one s d from 8 at 7 c7 (lit< tt) h) (lit≤ tt)
+  -- the last k, of which some were there
+  pub copy_last : (last k : ℕ) {x : List ℕ} → last ≤ i → length s ≡ last + k → x ≡ sets d last (take k (drop last s)) → x ≡ s
+  copy_last last k {x} h m e =
+      let u : 0 + i ≤ length s = c.counted in
+      let j : i ≡ last + (i - last) = omega arith in
+      let f : length (take last s) ≡ last = length-take-le last s (omega arith) in
+      let v : length (drop last s) ≡ length s - last = length-drop last s in
+      let p : length (take (i - last) (drop last s)) ≡ i - last = length-take-le (i - last) (drop last s) (omega arith) in
+      let q : length (take k (drop last s)) ≡ k = length-take-le k (drop last s) (omega arith) in
+      let b : List ℕ = sets before 0 (take last s) in
+      let y : d ≡ sets b last (take (i - last) (drop last s)) =
+      c.is ∙ ap (λ (z : ℕ). sets before 0 (take z s)) j ∙ ap (λ (z : List ℕ). sets before 0 z) (take-add last (i - last) s)
+      ∙ sets_append (take last s) (take (i - last) (drop last s)) before 0 ∙ rw (f, zero-add last) in
+      let g : s ≡ take last s ++ take k (drop last s) = sym (take_all (length s) s (omega arith)) ∙ ap (λ (z : ℕ). take z s) m ∙ take-add last k s in
+      let r : sets before 0 s ≡ sets b last (take k (drop last s)) =
+      ap (λ (z : List ℕ). sets before 0 z) g ∙ sets_append (take last s) (take k (drop last s)) before 0 ∙ rw (f, zero-add last) in
+      e ∙ rw y (sets_over (take (i - last) (drop last s)) (take k (drop last s)) b last (omega arith)) ∙ sym r ∙ sets_whole s before w
+
+-- ---- a part, all of it
+
+module _ (s d : List ℕ) (at e n : ℕ) (h : at ≤ e) (l : e ≤ length s) (r : n + (e - at) ≤ length d) where
+  part_length : length (take (e - at) (drop at s)) ≡ e - at
+  part_length = length-take-le (e - at) (drop at s) (rw (length-drop at s) (omega arith))
+
+  pub part_copied : {p : List ℕ} → p ≡ take (e - at) (drop at s) → put_mid n (n + (e - at) - n) d p ≡ sets d n (take (e - at) (drop at s))
+  part_copied q =
+      let w : n + (e - at) ≡ n + length (take (e - at) (drop at s)) = omega (arith, part_length) in
+      rw (q, w) (copied d (take (e - at) (drop at s)) n (omega (arith, part_length)))

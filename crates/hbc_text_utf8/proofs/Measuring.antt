@@ -7,13 +7,8 @@ use native.Mathlib.Omega.{arith}
 use lib.ListN.{length, take, drop, length-append, length-drop, drop_of_length-le}
 use lib.Dec.{leb}
 use lib.Seq.{length-take-le}
-use borrow.Author.Tests.{le-leb, lt-leb, leb-true, leb-false}
-use Rattle.hbc_io.specs.declared.Refusal.{Refusal}
-use Rattle.hbc_text_forms.specs.declared.Text.{Text}
-use Rattle.hbc_text_forms.specs.declared.Text.TheVariants.{Length, Refused}
+use borrow.Author.Tests.{le-leb, leb-true, leb-false}
 use Rattle.hbc_text_forms.specs.Utf8.{replacement, utf8_text}
-use Rattle.hbc_text_forms.specs.Text.{says_text, text_answer}
-use Rattle.hbc_text_forms.proofs.Exits.{answered, unanswered}
 use Rattle.hbc_text_forms.proofs.Laws.{text_nil}
 use Rattle.hbc_text_forms.proofs.Bounds.{text_length}
 use Rattle.hbc_text_forms.proofs.Counting.{Counting, count_none, count_all, count_more, count_long}
@@ -65,13 +60,6 @@ module _ (s : List ℕ) (room e n : ℕ) (m : Measuring s room e n) where
 -- room for any text
 pub room_for_any : (s : List ℕ) (room : ℕ) → length s ≤ room / 3 → true ≡ leb (length (utf8_text s)) room
 room_for_any s room h = sym (le-leb (length (utf8_text s)) room (omega (arith, text_length s)))
-
--- a measured one
-pub room_measured : (s : List ℕ) (room n : ℕ) {r : Text} → says_text r ≡ text_answer (utf8_text s) room → r ≡ Length n → true ≡ leb (length (utf8_text s)) room
-room_measured s room n e q = sym (le-leb (length (utf8_text s)) room (answered (utf8_text s) room n (sym e ∙ ap says_text q)).0)
-
-pub room_refused : (s : List ℕ) (room : ℕ) {r : Text} {k : Refusal} → says_text r ≡ text_answer (utf8_text s) room → r ≡ Refused k → false ≡ leb (length (utf8_text s)) room
-room_refused s room e q = sym (lt-leb (length (utf8_text s)) room (unanswered (utf8_text s) room (sym e ∙ ap says_text q)))
 
 -- what the test of the room says
 pub room_is : (s : List ℕ) (room : ℕ) {w : Bool} → w ≡ leb (length (utf8_text s)) room → w ≡ true → length (utf8_text s) ≤ room

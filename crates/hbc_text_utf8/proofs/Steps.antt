@@ -6,7 +6,7 @@ use mathlib.Core.List.{List, [], ◌∷◌, ◌++◌}
 use mathlib.Core.Bool.{Bool, true, false, cond, ◌&&◌, and-false}
 use native.Mathlib.Numerals.{add-one}
 use native.Mathlib.Omega.{arith}
-use lib.ListN.{drop_of_length-le, length, take, drop, get_or, length-drop}
+use lib.ListN.{length, take, drop, get_or, length-drop}
 use lib.Dec.{T, ltb, eqb, eqb→eq}
 use lib.Seq.{drop-cons, drop-drop}
 use borrow.Author.Tests.{ltb-true, ltb-false, lt-ltb, le-ltb, le-leb, lt-leb, eq-eqb, ne_eqb}
@@ -100,9 +100,6 @@ in_above s at lo hi h l = sym (rw (drop-cons s at 0 h, lt-leb (get_or s at 0) hi
 
 pub in_is : (s : List ℕ) (at lo hi : ℕ) → at < length s → lo ≤ get_or s at 0 → get_or s at 0 ≤ hi → true ≡ is_in lo hi (drop at s)
 in_is s at lo hi h l k = sym (rw (drop-cons s at 0 h, le-leb lo (get_or s at 0) l, le-leb (get_or s at 0) hi k))
-
-pub in_past : (s : List ℕ) (at lo hi : ℕ) → length s ≤ at → false ≡ is_in lo hi (drop at s)
-in_past s at lo hi h = sym (rw (drop_of_length-le s h))
 
 -- ---- a row followed
 

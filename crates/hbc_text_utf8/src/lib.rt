@@ -3,8 +3,9 @@
 #![tactic(auto)]
 
 ghost use Rattle.std.specs.Prelude.{◌≡◌, length, leb};
+ghost use Rattle.hbc_io.specs.Answers.{answered};
 ghost use Rattle.hbc_text_forms.specs.Utf8.{utf8_text};
-ghost use Rattle.hbc_text_forms.specs.Text.{says_text, text_answer, put_answer, PutText};
+ghost use Rattle.hbc_text_forms.specs.Text.{text_answer, put_answer, PutText};
 ghost use Rattle.hbc_text_utf8.specs.Private.{Run};
 
 mod parts;
@@ -12,63 +13,70 @@ mod put;
 mod runs;
 
 use crate::parts::part;
-use crate::put::put_text;
 use crate::runs::{blocks, run};
-use hbc_io::{LIMIT, refuse};
+use hbc_io::{LIMIT, Reason, refuse};
 use hbc_text_forms::Text;
 
-// The text's length, or 4 where it is more than the room, counted part by part. The characters from the beginning on end at `first`.
-fn counted(s: &[u8], first: usize, room: usize) -> Text
-    requires { Run s.now 0 first }
-    ensures { says_text result ≡ text_answer (utf8_text s.now) room }
-{
-    if room < first {
-        return Text::Refused(refuse(4, 0));
-    }
-    let mut e = first;
-    let mut n = first;
-    while e < s.len() {
-        let at = e + part(s, e);
-        e = run(s, at);
-        let k = 3 + (e - at);
-        if room - n < k {
-            return Text::Refused(refuse(4, 0));
+// Bytes, and where the characters from their beginning on end.
+#[derive(Clone, Copy)]
+struct Begun<'a> {
+    bytes: &'a [u8],
+    first: usize,
+    ghost run: { Run bytes.now 0 first },
+}
+
+impl<'a> Begun<'a> {
+    fn of(bytes: &'a [u8]) -> Begun<'a>
+        ensures { result.bytes.now ≡ bytes.now }
+    {
+        Begun {
+            bytes,
+            first: run(bytes, blocks(bytes)),
         }
-        n += k;
     }
-    Text::Length(n)
-}
 
-// Whether the text fits the room, counted part by part. The characters from the beginning on end at `first`.
-fn measure(s: &[u8], first: usize, room: usize) -> bool
-    requires { Run s.now 0 first }
-    ensures { result ≡ leb (length (utf8_text s.now)) room }
-{
-    match counted(s, first, room) {
-        Text::Length(_) => true,
-        Text::Refused(_) => false,
+    // The text's length, or 4 where it is more than the room, counted part by part.
+    fn counted(self, room: usize) -> Text
+        ensures { answered result ≡ text_answer (utf8_text self.entry.bytes.now) room }
+    {
+        if room < self.first {
+            return Err(refuse(Reason::TooFewRows as u32, 0));
+        }
+        let mut e = self.first;
+        let mut n = self.first;
+        // the next place is where the characters end behind a part
+        while e < self.bytes.len() {
+            let at = e + part(self.bytes, e);
+            e = run(self.bytes, at);
+            let k = 3 + (e - at);
+            if room - n < k {
+                return Err(refuse(Reason::TooFewRows as u32, 0));
+            }
+            n += k;
+        }
+        Ok(n)
     }
-}
 
-// The same, without counting where there is room for any text: it has at most three bytes for each that is read.
-fn enough(s: &[u8], first: usize, room: usize) -> bool
-    requires { Run s.now 0 first }
-    ensures { result ≡ leb (length (utf8_text s.now)) room }
-{
-    if s.len() <= room / 3 {
-        return true;
+    // Whether the text fits the room. None is counted where there is room for any text: it has at most three bytes for each that is read.
+    #[tactic(auto, using(crate::proofs::Measuring::room_for_any, hbc_text_forms::proofs::Exits::fits))]
+    fn enough(self, room: usize) -> bool
+        ensures { result ≡ leb (length (utf8_text self.entry.bytes.now)) room }
+    {
+        if self.bytes.len() <= room / 3 {
+            return true;
+        }
+        self.counted(room).is_ok()
     }
-    measure(s, first, room)
 }
 
 // What utf8_text answers into so much room, nothing being written.
 pub fn utf8_length(s: &[u8], room: usize) -> Text
-    ensures { says_text result ≡ put_answer (utf8_text s.now) s.now room }
+    ensures { answered result ≡ put_answer (utf8_text s.now) s.now room }
 {
     if LIMIT < s.len() {
-        return Text::Refused(refuse(1, 0));
+        return Err(refuse(Reason::TooLong as u32, 0));
     }
-    counted(s, run(s, blocks(s)), room)
+    Begun::of(s).counted(room)
 }
 
 // The text of bytes in front of what is lent, whole or not at all.
@@ -76,11 +84,11 @@ pub fn utf8_text(s: &[u8], d: &mut [u8]) -> Text
     ensures { PutText (utf8_text s.now) s.now d.old result d.new }
 {
     if LIMIT < s.len() {
-        return Text::Refused(refuse(1, 0));
+        return Err(refuse(Reason::TooLong as u32, 0));
     }
-    let first = run(s, blocks(s));
-    if enough(s, first, d.len()) {
-        return Text::Length(put_text(s, first, d));
+    let begun = Begun::of(s);
+    if begun.enough(d.len()) {
+        return Ok(begun.put(d));
     }
-    Text::Refused(refuse(4, 0))
+    Err(refuse(Reason::TooFewRows as u32, 0))
 }

@@ -6,21 +6,15 @@ ghost use Rattle.hbc_text_utf8.specs.Private.{AllPlain, Kept, Found, Run};
 
 use crate::parts::{high, low};
 
-fn wide(b: u8) -> u32
-    ensures { (result ≡ b) × (result < 256) }
-{
-    b as u32
-}
-
 // The number of four bytes.
 fn four_bytes(s: &[u8], at: usize) -> u32
     requires { at + 4 ≤ length s.now }
     ensures { result ≡ le_at s.now at 4 }
 {
-    wide(s[at])
-        + wide(s[at + 1]) * 0x100
-        + wide(s[at + 2]) * 0x1_0000
-        + wide(s[at + 3]) * 0x100_0000
+    u32::from(s[at])
+        + u32::from(s[at + 1]) * 0x100
+        + u32::from(s[at + 2]) * 0x1_0000
+        + u32::from(s[at + 3]) * 0x100_0000
 }
 
 // Of eight, which is one load.
@@ -44,6 +38,7 @@ pub(crate) fn blocks(s: &[u8]) -> usize
     ensures { Kept s.now 0 result }
 {
     let mut e: usize = 0;
+    // where the eights end is the answer, and a range would not keep it
     while 8 <= s.len() - e {
         if is_plain(s, e) {
             e += 8;
@@ -71,7 +66,8 @@ fn is_follow(b: u8) -> bool
     b <= 0xBF
 }
 
-// How many bytes the character of two at a place has, 0 where there is none; of three, of four.
+// How many bytes the character of two at a place has, 0 where there is none; of three, of four. That there is a byte at the place is of this place alone,
+// as in `part`: a type for a place would be made anew at each.
 fn two(s: &[u8], at: usize) -> usize
     requires { (at < length s.now) × (0x80 ≤ get_or s.now at 0) × (get_or s.now at 0 < 0xE0) }
     ensures { Found s.now at result }
@@ -155,6 +151,7 @@ pub(crate) fn run(s: &[u8], at: usize) -> usize
     ensures { Run s.now at result }
 {
     let mut e = at;
+    // the next place is behind a character, which has one to four bytes
     while e < s.len() {
         if s[e] < 0x80 {
             e += 1;

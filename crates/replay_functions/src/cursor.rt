@@ -1,11 +1,11 @@
 // The cursor layer. Asked: the cursor; a length, a target or an alignment, or the value of a signed number or a float. The answer: code, cursor, value
 // (1 if it is the one asked), or a span's start and length; then the mark, 1 exact, 0 not, or 2 where none is written.
-use hbc_record::{Asked, NONE, answers, same_float};
+use hbc_record::{Call, NONE, answers, same_float};
 
 // What the mark holds before a call.
 const UNMARKED: u32 = 2;
 
-fn unsigned(record: &[u8], s: &[u8], n: Asked) -> bool {
+fn unsigned(Call { record, s, n }: Call) -> bool {
     let mut at = n.a;
     let mut a: u8 = 0;
     let mut b: u16 = 0;
@@ -26,7 +26,7 @@ fn unsigned(record: &[u8], s: &[u8], n: Asked) -> bool {
 }
 
 // Signed numbers and floats.
-fn compared(record: &[u8], s: &[u8], n: Asked) -> bool {
+fn compared(Call { record, s, n }: Call) -> bool {
     let mut at = n.a;
     let mut a: i8 = 0;
     let mut b: i32 = 0;
@@ -51,7 +51,7 @@ fn compared(record: &[u8], s: &[u8], n: Asked) -> bool {
 }
 
 // The answer besides: a span's start and length, or 0 and 0.
-fn places(record: &[u8], s: &[u8], n: Asked) -> bool {
+fn places(Call { record, s, n }: Call) -> bool {
     let mut at = n.a;
     let mut start: usize = 0;
     let mut more: usize = 0;
@@ -69,13 +69,12 @@ fn places(record: &[u8], s: &[u8], n: Asked) -> bool {
     answers(record, code, at, start, more, exact as usize)
 }
 
-pub(crate) fn judge(record: &[u8], s: &[u8], n: Asked) -> bool {
-    let call = n.call;
-    if 9 < call {
-        return places(record, s, n);
+pub(crate) fn judge(call: Call) -> bool {
+    if 9 < call.n.call {
+        return places(call);
     }
-    match call {
-        2 | 6 | 7 | 9 => compared(record, s, n),
-        _ => unsigned(record, s, n),
+    match call.n.call {
+        2 | 6 | 7 | 9 => compared(call),
+        _ => unsigned(call),
     }
 }

@@ -7,50 +7,47 @@ mod cursor;
 mod function;
 mod parsing;
 
-use hbc_record::{Asked, Tally, counted, field_at, field_of, head, past, report};
+use hbc_record::{Call, Tally, counted, field_at, field_of, head, past, report};
 use hbc_stdio::{Out, read_full};
 use std::io;
 use std::io::Stdin;
 
-// Whether a call does what is recorded. Its input is read here once, for all judges.
-fn judge(record: &[u8], n: Asked) -> bool {
-    let s = field_of(record, 1);
-    let call = n.call;
-    match call {
-        15 => function::read_functions(record, s, n),
-        16 => function::read_function(record, s, n),
-        17 => function::refresh_functions(record, s, n),
-        18 => function::function_meets(record, s, n),
-        26 => parsing::read_handlers(record, s, n),
-        27 => parsing::trailing_sections(record, s, n),
-        29 => function::function_ground(record, s, n),
-        30 => function::write_functions(record, n),
-        33 => parsing::why_no_handlers(record, s, n),
-        34 => function::read_refreshed(record, s, n),
-        _ => cursor::judge(record, s, n),
+// Whether a call does what is recorded.
+fn judge(call: Call) -> bool {
+    match call.n.call {
+        15 => function::read_functions(call),
+        16 => function::read_function(call),
+        17 => function::refresh_functions(call),
+        18 => function::function_meets(call),
+        26 => parsing::read_handlers(call),
+        27 => parsing::trailing_sections(call),
+        29 => function::function_ground(call),
+        30 => function::write_functions(call),
+        33 => parsing::why_no_handlers(call),
+        34 => function::read_refreshed(call),
+        _ => cursor::judge(call),
     }
 }
 
 fn turn(out: &mut Out, record: &[u8], t: Tally) -> Tally {
-    if record.len() == 0 {
+    if record.is_empty() {
         return t;
     }
     let n = head(record);
     if n.call == 0 {
         return report(out, field_of(record, 1), t);
     }
-    counted(t, judge(record, n))
+    let s = field_of(record, 1);
+    counted(t, judge(Call { record, s, n }))
 }
 
 // As many turns as there are bytes: no fewer than there are records. Behind the last one a turn does nothing.
 fn replay(out: &mut Out, s: &[u8]) {
     let mut t = Tally { all: 0, bad: 0 };
     let mut at: usize = 0;
-    let mut left = s.len();
-    while 0 < left {
+    for _ in s {
         t = turn(out, field_at(s, at), t);
         at = past(s, at);
-        left -= 1;
     }
 }
 

@@ -1,8 +1,8 @@
 // Handlers and trailing sections.
-use hbc_record::{Asked, FILL, NONE, answers, given, leaves, lent};
+use hbc_record::{Call, FILL, NONE, answers, given, leaves, lent};
 
 // Asked: words lent; count. Given: the functions' words. The answer: code, rows.
-pub(crate) fn read_handlers(record: &[u8], s: &[u8], n: Asked) -> bool {
+pub(crate) fn read_handlers(Call { record, s, n }: Call) -> bool {
     let mut table = [0u32; 112];
     let functions = given(record, 4, &mut table);
     let mut rows = [FILL; 128];
@@ -12,7 +12,7 @@ pub(crate) fn read_handlers(record: &[u8], s: &[u8], n: Asked) -> bool {
 }
 
 // Asked: the function. Given: the functions' words. The answer: code, handlers, which are the fill where they are not written.
-pub(crate) fn why_no_handlers(record: &[u8], s: &[u8], n: Asked) -> bool {
+pub(crate) fn why_no_handlers(Call { record, s, n }: Call) -> bool {
     let mut table = [0u32; 112];
     let functions = given(record, 3, &mut table);
     let mut handlers = FILL;
@@ -21,7 +21,7 @@ pub(crate) fn why_no_handlers(record: &[u8], s: &[u8], n: Asked) -> bool {
 }
 
 // Asked: start, 1 where sources are given, words lent; four counts.
-pub(crate) fn trailing_sections(record: &[u8], s: &[u8], n: Asked) -> bool {
+pub(crate) fn trailing_sections(Call { record, s, n }: Call) -> bool {
     let mut rows = [FILL; 24];
     let t = lent(&mut rows, n.c);
     let code = hbc_c_parsing::trailing_sections(s, n.a, n.p, n.q, n.r, n.b == 1, n.s, t);

@@ -1,12 +1,13 @@
 // Literals.
 use hbc_buffer_object::Object;
+use hbc_io::Refusal;
 use hbc_record::{
-    Asked, FILL, FILL_LONG, answers, are, bytes_are, field_of, leaves, lent, lent_longs,
-    same_float, words_are,
+    Call, FILL, FILL_LONG, answers, are, bytes_are, field_of, leaves, lent, lent_longs, same_float,
+    words_are,
 };
 
 // Asked: cursor, tag, a float's bits. The answer: code, cursor, kind, word, 1 if the float is the one asked.
-pub(crate) fn read_literal(record: &[u8], s: &[u8], n: Asked) -> bool {
+pub(crate) fn read_literal(Call { record, s, n }: Call) -> bool {
     let mut at = n.a;
     let mut kind: u32 = 0;
     let mut number: f64 = 0.0;
@@ -25,7 +26,7 @@ pub(crate) fn read_literal(record: &[u8], s: &[u8], n: Asked) -> bool {
 }
 
 // Asked: words lent of kinds and of payloads; offset, count.
-pub(crate) fn read_series(record: &[u8], s: &[u8], n: Asked) -> bool {
+pub(crate) fn read_series(Call { record, s, n }: Call) -> bool {
     let mut kinds = [FILL; 320];
     let mut payloads = [FILL_LONG; 320];
     let code = hbc_c_buffer::read_series(
@@ -38,32 +39,38 @@ pub(crate) fn read_series(record: &[u8], s: &[u8], n: Asked) -> bool {
     leaves(record, code, 0, &kinds) & are(record, 4, &payloads)
 }
 
-// Whether an object's answer is the one listed, and its part the bytes recorded.
-fn is(record: &[u8], o: Object) -> bool {
-    let r = o.refusal;
+// Whether an object's answer is the one listed, and its part the bytes recorded. A refused one is listed by its refusal, in the buffer that was asked for,
+// with no bytes.
+fn is(record: &[u8], keys: bool, answer: Result<Object, Refusal>) -> bool {
+    let (number, place, o) = match answer {
+        Ok(o) => (0, 0, o),
+        Err(r) => (
+            r.number as u64,
+            r.place as usize,
+            Object {
+                yes: keys,
+                start: 0,
+                len: 0,
+            },
+        ),
+    };
     let part = hbc_buffer_object::object_part(field_of(record, 1), field_of(record, 5), o);
-    answers(
-        record,
-        r.number as u64,
-        r.place as usize,
-        o.start,
-        o.len,
-        o.yes as usize,
-    ) & bytes_are(record, 6, part)
+    answers(record, number, place, o.start, o.len, o.yes as usize) & bytes_are(record, 6, part)
 }
 
 // Asked besides: 1 for keys, 0 for values. The keys are the input, the values stand behind the tables.
-pub(crate) fn read_object(record: &[u8], s: &[u8], n: Asked) -> bool {
+pub(crate) fn read_object(Call { record, s, n }: Call) -> bool {
     let mut kinds = [FILL; 320];
     let mut payloads = [FILL_LONG; 320];
-    let o = hbc_buffer_object::read_object(
+    let keys = n.c == 1;
+    let answer = hbc_buffer_object::read_object(
         s,
         field_of(record, 5),
-        n.c == 1,
+        keys,
         n.p,
         n.q,
         lent(&mut kinds, n.a),
         lent_longs(&mut payloads, n.b),
     );
-    is(record, o) & words_are(record, 3, &kinds) & are(record, 4, &payloads)
+    is(record, keys, answer) & words_are(record, 3, &kinds) & are(record, 4, &payloads)
 }

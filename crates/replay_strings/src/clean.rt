@@ -1,8 +1,8 @@
 // Bundles. Asked: start; layout, count, strings. Given: kind runs, small entries, overflow words, storage, keys, values, series. The answer: code, place.
-use hbc_record::{Asked, FILL, NONE, answers, field_of, given};
+use hbc_record::{Call, FILL, NONE, answers, field_of, given};
 
 // The file is the input; a place that the call leaves is the fill.
-pub(crate) fn check_bundle(record: &[u8], s: &[u8], n: Asked) -> bool {
+pub(crate) fn check_bundle(Call { record, s, n }: Call) -> bool {
     let mut runs = [0u32; 64];
     let kinds = given(record, 3, &mut runs);
     let mut entries = [0u32; 64];

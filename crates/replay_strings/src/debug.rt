@@ -1,5 +1,5 @@
 // Debug sections. Asked: words lent in four tables; offset. The answer: code, four counts; then the tables, and the mark as one of a word.
-use hbc_record::{Asked, FILL, answers, lent, words_are};
+use hbc_record::{Call, FILL, answers, lent, words_are};
 
 fn are_left(
     record: &[u8],
@@ -16,7 +16,7 @@ fn are_left(
         & words_are(record, 7, mark)
 }
 
-pub(crate) fn read_debug(record: &[u8], s: &[u8], n: Asked) -> bool {
+pub(crate) fn read_debug(Call { record, s, n }: Call) -> bool {
     let mut strings = [FILL; 96];
     let mut scopes = [FILL; 160];
     let mut names = [FILL; 96];

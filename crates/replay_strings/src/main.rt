@@ -7,52 +7,49 @@ mod clean;
 mod debug;
 mod table;
 
-use hbc_record::{Asked, Tally, counted, field_at, field_of, head, past, report};
+use hbc_record::{Call, Tally, counted, field_at, field_of, head, past, report};
 use hbc_stdio::{Out, read_full};
 use hbc_table_strings::Mode;
 use std::io;
 use std::io::Stdin;
 
-// Whether a call does what is recorded. Its input is read here once, for all judges.
-fn judge(record: &[u8], n: Asked) -> bool {
-    let s = field_of(record, 1);
-    let call = n.call;
-    match call {
-        19 => table::read_u32_table(record, s, n),
-        20 => table::read_pair_table(record, s, n),
-        21 => table::decode_strings(record, s, n, Mode::InOrder),
-        31 => table::decode_strings(record, s, n, Mode::Hermes),
-        22 => table::string_bytes(record, s, n),
-        32 => table::string_text(record, s, n),
-        23 => buffer::read_literal(record, s, n),
-        24 => buffer::read_series(record, s, n),
-        25 => buffer::read_object(record, s, n),
-        28 => debug::read_debug(record, s, n),
-        35 => clean::check_bundle(record, s, n),
+// Whether a call does what is recorded.
+fn judge(call: Call) -> bool {
+    match call.n.call {
+        19 => table::read_u32_table(call),
+        20 => table::read_pair_table(call),
+        21 => table::decode_strings(call, Mode::InOrder),
+        31 => table::decode_strings(call, Mode::Hermes),
+        22 => table::string_bytes(call),
+        32 => table::string_text(call),
+        23 => buffer::read_literal(call),
+        24 => buffer::read_series(call),
+        25 => buffer::read_object(call),
+        28 => debug::read_debug(call),
+        35 => clean::check_bundle(call),
         _ => false,
     }
 }
 
 fn turn(out: &mut Out, record: &[u8], t: Tally) -> Tally {
-    if record.len() == 0 {
+    if record.is_empty() {
         return t;
     }
     let n = head(record);
     if n.call == 0 {
         return report(out, field_of(record, 1), t);
     }
-    counted(t, judge(record, n))
+    let s = field_of(record, 1);
+    counted(t, judge(Call { record, s, n }))
 }
 
 // As many turns as there are bytes: no fewer than there are records. Behind the last one a turn does nothing.
 fn replay(out: &mut Out, s: &[u8]) {
     let mut t = Tally { all: 0, bad: 0 };
     let mut at: usize = 0;
-    let mut left = s.len();
-    while 0 < left {
+    for _ in s {
         t = turn(out, field_at(s, at), t);
         at = past(s, at);
-        left -= 1;
     }
 }
 

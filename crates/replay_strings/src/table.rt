@@ -1,19 +1,19 @@
 // String tables.
 use hbc_io::Span;
 use hbc_record::{
-    Asked, FILL, FILL_BYTE, NONE, answers, bytes_are, given, leaves, lent, lent_bytes,
+    Call, FILL, FILL_BYTE, NONE, answers, bytes_are, given, leaves, lent, lent_bytes,
 };
 use hbc_table_strings::Mode;
 
 // Asked: cursor, words lent; count. The answer: code, cursor.
-pub(crate) fn read_u32_table(record: &[u8], s: &[u8], n: Asked) -> bool {
+pub(crate) fn read_u32_table(Call { record, s, n }: Call) -> bool {
     let mut table = [FILL; 128];
     let mut at = n.a;
     let code = hbc_c_table::read_u32_table(s, &mut at, n.p, lent(&mut table, n.b));
     leaves(record, code, at, &table)
 }
 
-pub(crate) fn read_pair_table(record: &[u8], s: &[u8], n: Asked) -> bool {
+pub(crate) fn read_pair_table(Call { record, s, n }: Call) -> bool {
     let mut table = [FILL; 128];
     let mut at = n.a;
     let code = hbc_c_table::read_pair_table(s, &mut at, n.p, lent(&mut table, n.b));
@@ -21,7 +21,7 @@ pub(crate) fn read_pair_table(record: &[u8], s: &[u8], n: Asked) -> bool {
 }
 
 // Asked: words lent; count. Given: kind runs, small entries, overflow words.
-pub(crate) fn decode_strings(record: &[u8], s: &[u8], n: Asked, mode: Mode) -> bool {
+pub(crate) fn decode_strings(Call { record, s, n }: Call, mode: Mode) -> bool {
     let mut runs = [0u32; 64];
     let kinds = given(record, 4, &mut runs);
     let mut entries = [0u32; 64];
@@ -35,7 +35,7 @@ pub(crate) fn decode_strings(record: &[u8], s: &[u8], n: Asked, mode: Mode) -> b
 }
 
 // Asked: a row's number. Given: the rows. The answer: start and length; then the bytes.
-pub(crate) fn string_bytes(record: &[u8], s: &[u8], n: Asked) -> bool {
+pub(crate) fn string_bytes(Call { record, s, n }: Call) -> bool {
     let mut table = [0u32; 64];
     let rows = given(record, 4, &mut table);
     let p = hbc_table_bytes::string_span(s, rows, n.a);
@@ -44,7 +44,7 @@ pub(crate) fn string_bytes(record: &[u8], s: &[u8], n: Asked) -> bool {
 }
 
 // Asked: a row's number, bytes lent. Given: the rows. The answer: code, 0; then the buffer.
-pub(crate) fn string_text(record: &[u8], s: &[u8], n: Asked) -> bool {
+pub(crate) fn string_text(Call { record, s, n }: Call) -> bool {
     let mut table = [0u32; 64];
     let rows = given(record, 4, &mut table);
     let mut buffer = [FILL_BYTE; 256];

@@ -1,5 +1,4 @@
 use Rattle.std.proofs.Common.{refl, rules, arith}
-use lib.Pow.{pow_pos}
 use Rattle.hbc_bits.specs.Bits.{field}
 use Rattle.hbc_bits.proofs.Laws.{one_shl, field_past, field_wide}
 use Rattle.hbc_bits.proofs.bits.Goals as goal
@@ -9,9 +8,6 @@ returns-then-first-ge64 c = field_past 64 _ _ _ (search rules) (omega arith)
 
 pub returns-then-width-ge64 : goal.returns-then-width-ge64
 returns-then-width-ge64 c = field_wide 64 _ _ _ (search rules) (omega arith)
-
-pub nonzero_rem-result : goal.nonzero_rem-result
-nonzero_rem-result c = rw (one_shl 64 _ c.if-width-ge64.false) (pow_pos _)
 
 pub returns : goal.returns
 unfolding field

@@ -1,4 +1,3 @@
-use Prim.Native.Nat.{◌-◌}
 use mathlib.Core.Path.{◌≡◌, refl, ap, ◌∙◌}
 use native.Mathlib.Omega.{arith}
 use lib.ListN.{length}
@@ -8,22 +7,22 @@ use Rattle.hbc_buffer.proofs.fill_kinds.Goals as goal
 
 pub loop-i-init : goal.loop-i-init
 unfolding filled_from
-loop-i-init c = (omega arith, refl)
+loop-i-init c = refl
 
 pub overflow_add-table : goal.overflow_add-table
-overflow_add-table c = omega (arith, ap length c.loop-i.invariant.1 ∙ from_length _ _ _ _)
+overflow_add-table c = omega (arith, ap length c.loop-i.invariant ∙ from_length _ _ _ _)
 
 pub offset_bounds-table-first : goal.offset_bounds-table-first
-offset_bounds-table-first c = omega (arith, ap length c.loop-i.invariant.1 ∙ from_length _ _ _ _)
+offset_bounds-table-first c = omega (arith, ap length c.loop-i.invariant ∙ from_length _ _ _ _)
 
 pub bounds-table-first : goal.bounds-table-first
-bounds-table-first c = omega (arith, ap length c.loop-i.invariant.1 ∙ from_length _ _ _ _)
+bounds-table-first c = omega (arith, ap length c.loop-i.invariant ∙ from_length _ _ _ _)
 
 pub loop-i-preserved : goal.loop-i-preserved
-loop-i-preserved c = (omega arith, rw (from_more, ← c.loop-i.invariant.1))
+loop-i-preserved c = rw (from_more, ← c.loop-i.invariant)
 
 pub shape_of-table : goal.shape_of-table
-shape_of-table c = ap length c.loop-i.invariant.1 ∙ from_length _ _ _ _
+shape_of-table c = ap length c.loop-i.invariant ∙ from_length _ _ _ _
 
 pub returns : goal.returns
-returns c = let e : c.loop-i.i ≡ c.args.n = omega arith in rw e at c.loop-i.invariant.1
+returns c = let e : c.loop-i.i ≡ c.args.n = omega arith in rw e at c.loop-i.invariant

@@ -1,11 +1,7 @@
-use Prim.Native.Nat.{◌-◌, ◌≤◌}
 use mathlib.Core.Path.{◌≡◌}
 use Rattle.hbc_buffer.specs.Private.{kinds_from}
 use Rattle.hbc_buffer.proofs.fill_kinds.Given as goal
 
 -- i entries from `first` on are k; the others are as they were.
 abbrev pub invariant-loop-i : goal.invariant-loop-i
-invariant-loop-i l = (l.i ≤ l.n) × (l.table ≡ kinds_from l.k l.first l.i l.initial.table)
-
-abbrev pub decreases-loop-i : goal.decreases-loop-i
-decreases-loop-i l = l.n - l.i
+invariant-loop-i l = (l.table ≡ kinds_from l.k l.first l.i l.initial.table)

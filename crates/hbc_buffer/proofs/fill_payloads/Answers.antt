@@ -1,4 +1,3 @@
-use Prim.Native.Nat.{◌-◌}
 use mathlib.Core.Path.{◌≡◌, refl, sym, ap, ◌∙◌}
 use native.Mathlib.Omega.{arith}
 use native.Mathlib.Nat.{zero-mul, add-zero}
@@ -9,38 +8,38 @@ use Rattle.hbc_buffer.proofs.fill_payloads.Goals as goal
 
 pub loop-i-init : goal.loop-i-init
 unfolding filled_from
-loop-i-init c = (omega arith, rw zero-mul (sym (add-zero _)), refl)
+loop-i-init c = (rw zero-mul (sym (add-zero _)), refl)
 
 pub payload-requires : goal.payload-requires
 payload-requires c =
     let start = c in
-    (start.requires.0, run_room _ _ start.args.n _ c.loop-i-test.true c.loop-i.invariant.1 start.requires.1)
+    (start.requires.0, run_room _ _ start.args.n _ c.loop-i-test.true c.loop-i.invariant.0 start.requires.1)
 
 pub overflow_add-table : goal.overflow_add-table
-overflow_add-table c = omega (arith, ap length c.loop-i.invariant.2 ∙ from_length _ _ _ _)
+overflow_add-table c = omega (arith, ap length c.loop-i.invariant.1 ∙ from_length _ _ _ _)
 
 pub offset_bounds-table-first : goal.offset_bounds-table-first
-offset_bounds-table-first c = omega (arith, ap length c.loop-i.invariant.2 ∙ from_length _ _ _ _)
+offset_bounds-table-first c = omega (arith, ap length c.loop-i.invariant.1 ∙ from_length _ _ _ _)
 
 pub bounds-table-first : goal.bounds-table-first
-bounds-table-first c = omega (arith, ap length c.loop-i.invariant.2 ∙ from_length _ _ _ _)
+bounds-table-first c = omega (arith, ap length c.loop-i.invariant.1 ∙ from_length _ _ _ _)
 
 pub overflow_add-p : goal.overflow_add-p
 overflow_add-p c =
     let start = c in
-    let room = run_room _ _ start.args.n _ c.loop-i-test.true c.loop-i.invariant.1 start.requires.1 in
+    let room = run_room _ _ start.args.n _ c.loop-i-test.true c.loop-i.invariant.0 start.requires.1 in
     omega (arith, c.width-w.ensures, room)
 
 pub loop-i-preserved : goal.loop-i-preserved
 loop-i-preserved c =
     let inv = c.loop-i.invariant in
-    (omega arith, run_step _ _ _ inv.1 c.width-w.ensures, rw (from_more, ← inv.2, ← inv.1, c.payload.ensures))
+    (run_step _ _ _ inv.0 c.width-w.ensures, rw (from_more, ← inv.1, ← inv.0, c.payload.ensures))
 
 pub shape_of-table : goal.shape_of-table
-shape_of-table c = ap length c.loop-i.invariant.2 ∙ from_length _ _ _ _
+shape_of-table c = ap length c.loop-i.invariant.1 ∙ from_length _ _ _ _
 
 pub returns : goal.returns
 returns c =
     let inv = c.loop-i.invariant in
     let e : c.loop-i.i ≡ c.args.n = omega arith in
-    (rw e at inv.1, rw e at inv.2)
+    (rw e at inv.0, rw e at inv.1)

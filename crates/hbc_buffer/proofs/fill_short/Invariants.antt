@@ -1,4 +1,4 @@
-use Prim.Native.Nat.{◌+◌, ◌*◌, ◌-◌, ◌≤◌}
+use Prim.Native.Nat.{◌+◌, ◌*◌}
 use mathlib.Core.Path.{◌≡◌}
 use Rattle.hbc_buffer.specs.Private.{kinds_from, payloads_from}
 use Rattle.hbc_buffer.proofs.fill_short.Given as goal
@@ -6,7 +6,4 @@ use Rattle.hbc_buffer.proofs.fill_short.Given as goal
 -- i kinds and i payloads from `first` on are written, and p is where the bytes of the next value start.
 abbrev pub invariant-loop-i : goal.invariant-loop-i
 invariant-loop-i l =
-    (l.i ≤ l.n) × (l.p ≡ l.at + l.i * l.w) × (l.kinds ≡ kinds_from l.k l.first l.i l.initial.kinds) × (l.payloads ≡ payloads_from l.s l.at l.w l.first l.i l.initial.payloads)
-
-abbrev pub decreases-loop-i : goal.decreases-loop-i
-decreases-loop-i l = l.n - l.i
+    (l.p ≡ l.at + l.i * l.w) × (l.kinds ≡ kinds_from l.k l.first l.i l.initial.kinds) × (l.payloads ≡ payloads_from l.s l.at l.w l.first l.i l.initial.payloads)

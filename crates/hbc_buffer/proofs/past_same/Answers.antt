@@ -1,4 +1,3 @@
-use Prim.Native.Nat.{◌-◌}
 use native.Mathlib.Omega.{arith}
 use Rattle.hbc_buffer.proofs.Fills.{small_product}
 use Rattle.hbc_buffer.proofs.Passes.{known_on}

@@ -1,7 +1,10 @@
+use Rattle.std.proofs.Common.{arith}
+use Rattle.hbc_io.specs.Answers.{says}
+use Rattle.hbc_io.proofs.Reading.{found}
+use Rattle.hbc_buffer_literal.proofs.Laws.{payload_lt}
 use Rattle.hbc_buffer_literal.proofs.by_tag.Goals as goal
 
-pub returns-in-3 : goal.returns-in-3
-returns-in-3 c = rw c.in-3.is c.number.ensures
-
-pub returns-in-7 : goal.returns-in-7
-returns-in-7 c = rw c.in-7.is c.integer.ensures
+pub worded-requires : goal.worded-requires
+worded-requires c =
+    let known = found says c.read_payload.ensures c.in_ok-v-in_default.was in
+    (omega arith, omega arith, payload_lt _ _ _ (λ i. (c.type_inv.s i).fits) (omega arith) known)

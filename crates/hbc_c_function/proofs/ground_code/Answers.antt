@@ -1,11 +1,11 @@
 use Rattle.hbc_c_function.proofs.Grounds.{found_inline, found_large, found_not}
 use Rattle.hbc_c_function.proofs.ground_code.Goals as goal
 
-pub returns-in-Inline : goal.returns-in-Inline
-returns-in-Inline c = found_inline c.function_ground.ensures c.in-Inline.is
+pub returns-in-Ok-Inline : goal.returns-in-Ok-Inline
+returns-in-Ok-Inline c = found_inline (rw c.in-Ok-Inline.field-0-is at c.in-Ok-Inline.ensures)
 
-pub returns-in-Large : goal.returns-in-Large
-returns-in-Large c = found_large c.function_ground.ensures c.in-Large.is
+pub returns-in-Ok-Large : goal.returns-in-Ok-Large
+returns-in-Ok-Large c = found_large (rw c.in-Ok-Large.field-0-is at c.in-Ok-Large.ensures)
 
-pub returns-in-Refused : goal.returns-in-Refused
-returns-in-Refused c = found_not c.function_ground.ensures c.in-Refused.is c.code.ensures
+pub returns-in-Err : goal.returns-in-Err
+returns-in-Err c = found_not c.in-Err.ensures c.code.ensures

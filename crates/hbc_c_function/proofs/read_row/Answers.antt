@@ -1,8 +1,7 @@
-use mathlib.Core.Path.{refl, ap, sym, ◌∙◌}
+use mathlib.Core.Path.{refl, ap, ◌∙◌}
 use native.Mathlib.Omega.{arith}
 use Rattle.hbc_io.specs.Answer.{gives, refuses, refused_at}
 use Rattle.hbc_io.proofs.Exits.{stop, past}
-use Rattle.hbc_function_header.specs.Header.{says_function}
 use Rattle.hbc_c_code.specs.Code.{code_of}
 use Rattle.hbc_c_code.proofs.Tolds.{told_by}
 use Rattle.hbc_c_function.specs.Function.{row_answer}
@@ -21,8 +20,8 @@ pub returns-then-table-lt-WIDTH : goal.returns-then-table-lt-WIDTH
 unfolding row_answer
 returns-then-table-lt-WIDTH c = told_by {b = refused_at 4 0} (past _ _ _ _ (omega arith) (past _ _ _ _ (omega arith) (stop _ _ _ _ (omega arith) refl refl))) refl (c.code-then-table-lt-WIDTH.ensures ∙ ap code_of c.refuse-then-table-lt-WIDTH.ensures)
 
-pub returns-in-Read : goal.returns-in-Read
-returns-in-Read c = told_by {b = gives tt} (row_read _ _ _ _ _ (omega arith) (omega arith) (omega arith) (sym (ap says_function c.in-Read.is) ∙ c.read_function.ensures) c.row_words-words.ensures c.put_row.ensures) refl refl
+pub returns-in-Ok : goal.returns-in-Ok
+returns-in-Ok c = told_by {b = gives tt} (row_read _ _ _ _ _ (omega arith) (omega arith) (omega arith) c.in-Ok.ensures c.row_words-words.ensures c.put_row.ensures) refl refl
 
-pub returns-in-Refused : goal.returns-in-Refused
-returns-in-Refused c = told_by {b = refuses c.in-Refused.r} (row_kept _ _ _ _ _ (omega arith) (omega arith) (omega arith) (sym (ap says_function c.in-Refused.is) ∙ c.read_function.ensures)) refl c.code-in-Refused.ensures
+pub returns-in-Err : goal.returns-in-Err
+returns-in-Err c = told_by {b = refuses c.in-Err.r} (row_kept _ _ _ _ _ (omega arith) (omega arith) (omega arith) c.in-Err.ensures) refl c.code-in-Err.ensures

@@ -12,10 +12,10 @@ pub returns-then-rows-lt5 : goal.returns-then-rows-lt5
 returns-then-rows-lt5 c = sections_few c.code-then-rows-lt5.ensures (omega arith) (omega arith) c.if-rows-lt5.true c.refuse-then-rows-lt5.ensures
 
 pub put_sections-requires : goal.put_sections-requires
-put_sections-requires c = found_small _ _ _ _ _ _ _ c.trailing_sections.ensures c.in-Got.is
+put_sections-requires c = found_small _ _ _ _ _ _ _ c.trailing_sections.ensures c.in-Ok.is
 
-pub returns-in-Refused : goal.returns-in-Refused
-returns-in-Refused c = sections_not _ _ _ _ _ _ _ c.trailing_sections.ensures (omega arith) (omega arith) c.if-rows-lt5.false c.in-Refused.is c.code-in-Refused.ensures
+pub returns-in-Err : goal.returns-in-Err
+returns-in-Err c = sections_not _ _ _ _ _ _ _ c.trailing_sections.ensures (omega arith) (omega arith) c.if-rows-lt5.false c.in-Err.is c.code-in-Err.ensures
 
-pub returns-in-Got : goal.returns-in-Got
-returns-in-Got c = sections_got _ _ _ _ _ _ _ c.trailing_sections.ensures (omega arith) (omega arith) c.if-rows-lt5.false c.in-Got.is c.put_sections.ensures
+pub returns-in-Ok : goal.returns-in-Ok
+returns-in-Ok c = sections_got _ _ _ _ _ _ _ c.trailing_sections.ensures (omega arith) (omega arith) c.if-rows-lt5.false c.in-Ok.is c.put_sections.ensures

@@ -1,13 +1,12 @@
-use mathlib.Core.Path.{refl, ap, ◌∙◌}
-use Rattle.hbc_parsing_handlers.specs.declared.Explained.TheVariants.{By}
+use mathlib.Core.Path.{refl}
 use Rattle.hbc_c_parsing.proofs.Parsed.{why_told}
 use Rattle.hbc_c_parsing.proofs.why_no_handlers.Goals as goal
 
-pub returns-in-Shown : goal.returns-in-Shown
-returns-in-Shown c = why_told c.why_no_handlers.ensures (c.in-By.is ∙ ap By c.in-Shown.is) refl refl
+pub returns-in-Ok-Ok : goal.returns-in-Ok-Ok
+returns-in-Ok-Ok c = why_told c.why_no_handlers.ensures (rw c.in-Ok-Ok.field-0-is at c.in-Ok-Ok.is) refl refl
 
-pub returns-in-Hidden : goal.returns-in-Hidden
-returns-in-Hidden c = why_told c.why_no_handlers.ensures (c.in-By.is ∙ ap By c.in-Hidden.is) c.reason_number.ensures refl
+pub returns-in-Ok-Err : goal.returns-in-Ok-Err
+returns-in-Ok-Err c = why_told c.why_no_handlers.ensures (rw c.in-Ok-Err.field-0-is at c.in-Ok-Err.is) c.reason_number.ensures refl
 
-pub returns-in-Refused : goal.returns-in-Refused
-returns-in-Refused c = why_told c.why_no_handlers.ensures c.in-Refused.is c.code.ensures refl
+pub returns-in-Err : goal.returns-in-Err
+returns-in-Err c = why_told c.why_no_handlers.ensures c.in-Err.is c.code.ensures refl

@@ -2,8 +2,8 @@ use mathlib.Core.Path.{refl}
 use Rattle.hbc_c_code.proofs.Tolds.{told_by}
 use Rattle.hbc_c_table.proofs.decode_strings.Goals as goal
 
-pub returns-in-Rows : goal.returns-in-Rows
-returns-in-Rows c = told_by c.decode_strings.ensures c.in-Rows.is refl
+pub returns-in-Ok : goal.returns-in-Ok
+returns-in-Ok c = told_by c.decode_strings.ensures c.in-Ok.is refl
 
-pub returns-in-Refused : goal.returns-in-Refused
-returns-in-Refused c = told_by c.decode_strings.ensures c.in-Refused.is c.code.ensures
+pub returns-in-Err : goal.returns-in-Err
+returns-in-Err c = told_by c.decode_strings.ensures c.in-Err.is c.code.ensures

@@ -2,8 +2,8 @@ use mathlib.Core.Path.{refl}
 use Rattle.hbc_c_code.proofs.Tolds.{value_told}
 use Rattle.hbc_c_text.proofs.strings_json.Goals as goal
 
-pub returns-in-Length : goal.returns-in-Length
-returns-in-Length c = value_told c.strings_json.ensures c.in-Length.is refl refl
+pub returns-in-Ok : goal.returns-in-Ok
+returns-in-Ok c = value_told c.strings_json.ensures c.in-Ok.is refl refl
 
-pub returns-in-Refused : goal.returns-in-Refused
-returns-in-Refused c = value_told c.strings_json.ensures c.in-Refused.is c.code.ensures refl
+pub returns-in-Err : goal.returns-in-Err
+returns-in-Err c = value_told c.strings_json.ensures c.in-Err.is c.code.ensures refl

@@ -1,17 +1,25 @@
-use mathlib.Core.Path.{ap, sym, ◌∙◌}
-use Rattle.hbc_lowest.specs.Lowest.{says_lowest}
-use Rattle.hbc_clean_series.specs.Series.{says_walked}
+use mathlib.Core.Path.{◌≡◌}
+use native.Mathlib.Omega.{arith}
+use Rattle.std.specs.Prelude.{Err}
+use Rattle.std.proofs.lemmas.Grind.{common_steps}
+use Rattle.hbc_clean.proofs.Judging.{lesser_is}
 use Rattle.hbc_clean.proofs.Verdicts.{headers_refused, strings_refuse, series_refuse, bundle_given}
 use Rattle.hbc_clean.proofs.check_bundle.Goals as goal
 
-pub returns-in-Refused : goal.returns-in-Refused
-returns-in-Refused c = headers_refused _ (sym (ap says_lowest c.in-Refused.is) ∙ c.check_large.ensures)
+pub returns-in_err-large : goal.returns-in_err-large
+returns-in_err-large c =
+    let q : c.from_residual.result ≡ Err c.in_err-large.field-0.0 = grind (arith, common_steps) in
+    rw q (headers_refused _ c.in_err-large.ensures)
 
-pub returns-in-Refused-check_strings : goal.returns-in-Refused-check_strings
-returns-in-Refused-check_strings c = strings_refuse _ (sym (ap says_lowest c.in-At.is) ∙ c.check_large.ensures) (sym (ap says_lowest c.in-Refused-check_strings.is) ∙ c.check_strings.ensures _)
+pub returns-in_err-text : goal.returns-in_err-text
+returns-in_err-text c =
+    let q : c.from_residual-in_err-text.result ≡ Err c.in_err-text.field-0.0 = grind (arith, common_steps) in
+    rw q (strings_refuse _ c.in_ok-large.ensures (c.in_err-text.ensures _))
 
-pub returns-in-Refused-check_series : goal.returns-in-Refused-check_series
-returns-in-Refused-check_series c = series_refuse _ (sym (ap says_lowest c.in-At.is) ∙ c.check_large.ensures) (sym (ap says_lowest c.in-At-check_strings.is) ∙ c.check_strings.ensures _) (sym (ap says_walked c.in-Refused-check_series.is) ∙ c.check_series.ensures)
+pub returns-in_err-lows : goal.returns-in_err-lows
+returns-in_err-lows c =
+    let q : c.from_residual-in_err-lows.result ≡ Err c.in_err-lows.field-0.0 = grind (arith, common_steps) in
+    rw q (series_refuse _ c.in_ok-large.ensures (c.in_ok-text.ensures _) c.in_err-lows.ensures)
 
-pub returns-in-Lowest : goal.returns-in-Lowest
-returns-in-Lowest c = bundle_given _ (sym (ap says_lowest c.in-At.is) ∙ c.check_large.ensures) (sym (ap says_lowest c.in-At-check_strings.is) ∙ c.check_strings.ensures _) (sym (ap says_walked c.in-Lowest.is) ∙ c.check_series.ensures) _ c.lowest_run.ensures (rw c.lesser.ensures.0 at c.verdict.ensures)
+pub returns : goal.returns
+returns c = bundle_given _ c.in_ok-large.ensures (c.in_ok-text.ensures _) c.in_ok-lows.ensures c.lowest_run.ensures (rw (lesser_is _ _ c.min.ensures) at c.verdict.ensures)

@@ -1,12 +1,7 @@
-use Prim.Native.Nat.{◌≤◌, ◌-◌}
-use lib.ListN.{length}
 use Rattle.hbc_lowest.proofs.Laws.{None}
 use Rattle.hbc_clean.specs.Strings.{empty_run}
 use Rattle.hbc_clean.proofs.empty_run.Given as goal
 
 -- none of the first runs is empty
 abbrev pub invariant-loop-run : goal.invariant-loop-run
-invariant-loop-run l = (l.run ≤ length l.kinds) × None (empty_run l.kinds) l.run
-
-abbrev pub decreases-loop-run : goal.decreases-loop-run
-decreases-loop-run l = length l.kinds - l.run
+invariant-loop-run l = None (empty_run l.kinds) l.run

@@ -1,22 +1,24 @@
-use mathlib.Core.Path.{refl, ap}
-use Prim.Native.Nat.{◌-◌}
+use mathlib.Core.Path.{◌≡◌, refl, ap}
 use native.Mathlib.Omega.{arith}
+use Rattle.std.specs.Prelude.{Err}
+use Rattle.std.proofs.lemmas.Grind.{common_steps}
 use Rattle.hbc_io.specs.Answer.{asked}
 use Rattle.hbc_function.specs.Table.{all, scan}
-use Rattle.hbc_function.proofs.Laws.{found_by, step_read, step_refused, scan_more, scan_stops, scan_done}
-use Rattle.hbc_clean_large.proofs.Grounds.{here_by, readable_first, readable_next, readable_all, asked_at}
-use Rattle.hbc_io.proofs.Exits.{not_given}
+use Rattle.hbc_function.proofs.Laws.{step_read, step_refused, scan_more, scan_stops}
+use Rattle.hbc_clean_large.proofs.Grounds.{here_by, readable_first, readable_next, asked_at}
 use Rattle.hbc_clean_large.proofs.check_all.Goals as goal
 
 pub loop-id-init : goal.loop-id-init
 unfolding scan
-loop-id-init c = (omega arith, refl, readable_first)
+loop-id-init c = (refl, readable_first)
 
-pub returns-in-Refused : goal.returns-in-Refused
-returns-in-Refused c = let q = c.loop-id in record { result_value = ap asked (scan_stops all _ q.id _ q.id (omega arith) q.invariant.1 (step_refused q.id _ refl (asked_at _ _ _ _ c.requires.0 c.requires.1 (found_by c.check_function.ensures c.in-Refused.is)))); readable = λ e. absurd (not_given e) }
+pub returns-in_err-check_function-clause-result_value : goal.returns-in_err-check_function-clause-result_value
+returns-in_err-check_function-clause-result_value c =
+    let q : c.from_residual.result ≡ Err c.in_err-check_function.field-0.0 = grind (arith, common_steps) in
+    let i = c.loop-id.id in
+    rw q (ap asked (scan_stops all _ i _ i (omega arith) c.loop-id.invariant.0 (step_refused i _ refl (asked_at _ _ _ _ c.requires.0 c.requires.1 c.in_err-check_function.ensures))))
 
 pub loop-id-preserved : goal.loop-id-preserved
-loop-id-preserved c = let q = c.loop-id in let e = found_by c.check_function.ensures c.in_default.is in (omega arith, scan_more all _ _ _ q.invariant.1 (step_read q.id _ refl (asked_at _ _ _ _ c.requires.0 c.requires.1 e)), readable_next q.invariant.2 (here_by _ _ _ _ c.requires.0 c.requires.1 e))
-
-pub returns : goal.returns
-returns c = record { result_value = ap asked (scan_done all _ c.loop-id.id _ _ (omega arith) c.loop-id.invariant.1); readable = λ e. readable_all c.loop-id.invariant.2 c.loop-id-test.false }
+loop-id-preserved c =
+    let e = c.in_ok-check_function.ensures in
+    (scan_more all _ _ _ c.loop-id.invariant.0 (step_read c.loop-id.id _ refl (asked_at _ _ _ _ c.requires.0 c.requires.1 e)), readable_next c.loop-id.invariant.1 (here_by _ _ _ _ c.requires.0 c.requires.1 e))

@@ -1,4 +1,3 @@
-use Prim.Native.Nat.{◌-◌}
 use native.Mathlib.Omega.{arith}
 use Rattle.hbc_clean_large.proofs.Slots.{size_small, slot_below, first_small, bytes_small}
 use Rattle.hbc_clean_large.proofs.Sweeping.{swept_next, swept_zero, swept_all}

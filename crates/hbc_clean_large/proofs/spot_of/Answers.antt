@@ -1,14 +1,12 @@
-use mathlib.Core.Path.{ap}
-use Rattle.hbc_function_header.specs.Header.{says_grounded}
 use Rattle.hbc_function_header.specs.declared.Ground.TheVariants as ground
 use Rattle.hbc_clean_large.proofs.Grounds.{spot_got, spot_refused}
 use Rattle.hbc_clean_large.proofs.spot_of.Goals as goal
 
-pub returns-in-Inline : goal.returns-in-Inline
-returns-in-Inline c = spot_got _ _ _ _ c.requires.0 c.requires.1 c.requires.2 c.function_ground.result (ground.Inline _) c.function_ground.ensures (ap says_grounded c.in-Inline.is)
+pub returns-in-Ok-Large : goal.returns-in-Ok-Large
+returns-in-Ok-Large c = spot_got _ _ _ _ c.requires.0 c.requires.1 c.requires.2 (ground.Large _ _) (rw c.in-Ok-Large.field-0-is at c.in-Ok-Large.ensures)
 
-pub returns-in-Large : goal.returns-in-Large
-returns-in-Large c = spot_got _ _ _ _ c.requires.0 c.requires.1 c.requires.2 c.function_ground.result (ground.Large _ _) c.function_ground.ensures (ap says_grounded c.in-Large.is)
+pub returns-in-Ok-Inline : goal.returns-in-Ok-Inline
+returns-in-Ok-Inline c = spot_got _ _ _ _ c.requires.0 c.requires.1 c.requires.2 (ground.Inline _) (rw c.in-Ok-Inline.field-0-is at c.in-Ok-Inline.ensures)
 
-pub returns-in-Refused : goal.returns-in-Refused
-returns-in-Refused c = absurd (spot_refused _ _ _ _ c.requires.0 c.requires.1 c.requires.2 c.function_ground.result c.function_ground.ensures (ap says_grounded c.in-Refused.is))
+pub returns-in-Err : goal.returns-in-Err
+returns-in-Err c = spot_refused _ _ _ _ c.requires.0 c.requires.1 c.requires.2 c.in-Err.ensures

@@ -1,5 +1,5 @@
-use Prim.Native.Nat.{◌-◌, ◌<◌}
-use mathlib.Core.Path.{◌≡◌}
+use Prim.Native.Nat.{◌<◌}
+use mathlib.Core.Path.{◌≡◌, ◌∙◌}
 use native.Mathlib.Omega.{arith}
 use Rattle.hbc_buffer_literal.proofs.Laws.{width_most}
 use Rattle.hbc_buffer.proofs.Fills.{small_product}
@@ -8,7 +8,10 @@ use Rattle.hbc_buffer.proofs.Passes.{passed_first, passed_none, passed_cut, pass
 use Rattle.hbc_clean_series.proofs.Gaps.{flag_first, flag_more, flag_done}
 use Rattle.hbc_clean_series.proofs.Highs.{high_first, high_more, high_done}
 use Rattle.hbc_clean_series.proofs.Exits.{marked_refused, marked_given}
+use mathlib.Core.Bool.{true, cond}
+use lib.Dec.{eqb}
 use Rattle.hbc_clean_series.proofs.walk.Goals as goal
+use Rattle.hbc_clean_series.proofs.walk.Goals.{then-empty, else-empty}
 
 -- ---- the answers
 pub loop-done-init : goal.loop-done-init
@@ -25,24 +28,24 @@ overflow_sub-room c = (tag_on _ _ _ _ (c.read_tag-tag.ensures.run c.if-tag.true)
 
 pub overflow_mul-n : goal.overflow_mul-n
 overflow_mul-n c =
-    let few = c.least-n in
+    let few = c.min-n in
     let most : few.result < 4294967296 = omega (arith, few.ensures, c.requires.2) in
     omega (arith, small_product few.result c.width-w.result most (rw c.width-w.ensures (width_most _)))
 
 pub nonzero_div-room : goal.nonzero_div-room
-nonzero_div-room c = positive c.least-n.result _ _ c.if-room-n.true
+nonzero_div-room c = positive c.min-n.result _ _ c.if-room-n.true
 
 pub overflow_add-done : goal.overflow_add-done
-overflow_add-done c = let few = c.least-n in omega (arith, quotient few.result _ _ c.if-room-n.true, few.ensures)
+overflow_add-done c = let few = c.min-n in omega (arith, quotient few.result _ _ c.if-room-n.true, few.ensures)
 
 pub overflow_cast-done : goal.overflow_cast-done
-overflow_cast-done c = let few = c.least-n in omega (arith, quotient few.result _ _ c.if-room-n.true, few.ensures, c.requires.2)
+overflow_cast-done c = let few = c.min-n in omega (arith, quotient few.result _ _ c.if-room-n.true, few.ensures, c.requires.2)
 
 pub returns-then-room-n : goal.returns-then-room-n
 returns-then-room-n c =
     let tag = c.read_tag-tag.ensures.run c.if-tag.true in
     let wide = c.width-w.ensures in
-    let cut = passed_cut c.loop-done.invariant.0 c.loop-done-test.true c.requires.0 tag _ c.least-n.ensures (rw (← wide) c.if-room-n.true) in
+    let cut = passed_cut c.loop-done.invariant.0 c.loop-done-test.true c.requires.0 tag _ c.min-n.ensures (rw (← wide) c.if-room-n.true) in
     rw (c.refuse.ensures, wide) (marked_refused _ _ cut)
 
 pub run_high-high-requires : goal.run_high-high-requires
@@ -52,7 +55,7 @@ run_high-high-requires c =
 
 pub overflow_mul-at : goal.overflow_mul-at
 overflow_mul-at c =
-    let few = c.least-n in
+    let few = c.min-n in
     let most : few.result < 4294967296 = omega (arith, few.ensures, c.requires.2) in
     omega (arith, small_product few.result c.width-w.result most (rw c.width-w.ensures (width_most _)))
 
@@ -62,7 +65,7 @@ overflow_add-at c =
     omega (arith, c.if-room-n.false, on.within, c.requires.0)
 
 pub overflow_add-done-then-tag : goal.overflow_add-done-then-tag
-overflow_add-done-then-tag c = omega (arith, c.least-n.ensures)
+overflow_add-done-then-tag c = omega (arith, c.min-n.ensures)
 
 pub loop-done-smaller : goal.loop-done-smaller
 loop-done-smaller c =
@@ -75,11 +78,13 @@ loop-done-preserved c =
     let more = c.loop-done-test.true in
     let short = c.requires.0 in
     let tag = c.read_tag-tag.ensures.run c.if-tag.true in
-    let few = c.least-n.ensures in
+    let few = c.min-n.ensures in
     let wide = c.width-w.ensures in
+    let flag : c.if-empty.empty ≡ cond c.loop-done.empty true (eqb c.read_tag-tag.result.size 0)
+    = elim c.if-empty.branch [ then-empty w ↦ rw w.if-empty.true (w.empty-is ∙ w.if-empty.true) | else-empty w ↦ rw w.if-empty.false w.empty-is ] in
     let room = rw wide at c.if-room-n.false in (
       rw wide (passed_more inv.0 more short tag _ few room),
-      rw wide (flag_more inv.1 more short tag _ few room c.passes-empty.ensures),
+      rw wide (flag_more inv.1 more short tag _ few room flag),
       high_more inv.0 more short tag _ few room _ inv.2 c.run_high-high.ensures,
     )
 

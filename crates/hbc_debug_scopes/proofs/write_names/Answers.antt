@@ -1,39 +1,38 @@
 use native.Mathlib.Omega.{arith}
-use mathlib.Core.Path.{refl, ap, ◌∙◌}
+use Prim.Native.Nat.{◌+◌, ◌-◌}
+use mathlib.Core.Path.{◌≡◌, refl, ap, ◌∙◌}
 use lib.Seq.{sets}
+use Rattle.hbc_io.specs.Answers.{says}
 use Rattle.hbc_io.proofs.Reading.{found}
-use Rattle.hbc_io_leb.specs.Signed.{says_held}
 use Rattle.hbc_rows.proofs.Passes.{ends_first, ends_on, ends_stop, ends_done, written_first, written_on, written_stop, written_done}
 use Rattle.hbc_debug_scopes.proofs.Fronts.{cell_is}
 use Rattle.hbc_io_leb.proofs.Helds.{bits_got, bits_refused}
 use Rattle.hbc_debug_scopes.proofs.write_names.Goals as goal
 
-pub loop-left-init : goal.loop-left-init
-loop-left-init c = (ends_first _ _, written_first _ _, omega arith)
+pub loop-n-init : goal.loop-n-init
+loop-n-init c =
+    let z : c.args.count - 0 ≡ c.args.count = omega arith in
+    let y : c.args.at + 0 ≡ c.args.at = omega arith in
+    rw (z, y) (ends_first _ _, written_first _ _)
 
-pub shape_of-names-in-Refused : goal.shape_of-names-in-Refused
-shape_of-names-in-Refused c = c.loop-left.invariant.1.size
+pub returns-in-Err : goal.returns-in-Err
+returns-in-Err c =
+    let e = found says c.read_sleb128_bits.ensures c.in-Err.is in
+    record { ended = ends_stop (omega arith) (bits_refused _ _ _ _ e) c.loop-n.invariant.0; names_after = written_stop (bits_refused _ _ _ _ e) c.loop-n.invariant.1 }
 
-pub returns-in-Refused : goal.returns-in-Refused
-returns-in-Refused c =
-    let e = found says_held c.read_sleb128_bits.ensures c.in-Refused.is in
-    record { ended = ends_stop c.loop-left-test.true (bits_refused _ _ _ _ e) c.loop-left.invariant.0; names_after = written_stop (bits_refused _ _ _ _ e) c.loop-left.invariant.1 }
-
-pub overflow_add-n : goal.overflow_add-n
-overflow_add-n c = omega (arith, c.loop-left.invariant.0.most)
-
-pub overflow_add-to : goal.overflow_add-to
-overflow_add-to c = omega (arith, c.loop-left.invariant.0.most, c.loop-left.invariant.2, c.requires)
-
-pub loop-left-preserved : goal.loop-left-preserved
-loop-left-preserved c =
-    let e = found says_held c.read_sleb128_bits.ensures c.in-Got.is in
+pub loop-n-preserved : goal.loop-n-preserved
+loop-n-preserved c =
+    let l = c.loop-n in
+    let e = found says c.read_sleb128_bits.ensures c.in-Ok.is in
     let g = bits_got _ _ _ _ e in
     let w = cell_is c.args.strings g c.word_below.ensures (omega (arith, c.ranges.strings)) in
-    (ends_on c.loop-left-test.true g.is c.loop-left.invariant.0, written_on 1 c.loop-left-test.true g.is refl (c.put_words.ensures ∙ ap (sets c.loop-left.names c.loop-left.to) w) c.loop-left.invariant.1, omega (arith, c.loop-left.invariant.2))
-
-pub shape_of-names : goal.shape_of-names
-shape_of-names c = c.loop-left.invariant.1.size
+    let n = c.args.count in
+    let j : n - l.n - 1 ≡ n - (l.n + 1) = omega arith in
+    let k : c.args.at + l.n + 1 ≡ c.args.at + (l.n + 1) = omega arith in
+    rw (← j, ← k)
+    (ends_on (omega arith) g.is l.invariant.0, written_on 1 (omega arith) g.is refl (c.put_words.ensures ∙ ap (sets l.names (c.args.at + l.n)) w) l.invariant.1)
 
 pub returns : goal.returns
-returns c = record { ended = ends_done c.loop-left-test.false c.loop-left.invariant.0; names_after = written_done c.loop-left-test.false c.loop-left.invariant.1 }
+returns c =
+    let d = ends_done (omega arith) c.loop-n.invariant.0 in
+    record { ended = record { count = omega (arith, d.count); place = d.place }; names_after = written_done (omega arith) c.loop-n.invariant.1 }

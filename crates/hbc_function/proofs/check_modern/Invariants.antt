@@ -1,5 +1,4 @@
 use mathlib.Core.Path.{◌≡◌}
-use Prim.Native.Nat.{◌≤◌, ◌-◌}
 use Rattle.hbc_io.specs.Answer.{gives}
 use Rattle.hbc_function_record.specs.declared.Layout.TheVariants.{Modern12}
 use Rattle.hbc_function_header.specs.Header.{function_at}
@@ -8,7 +7,4 @@ use Rattle.hbc_function.proofs.check_modern.Given as goal
 
 -- each of functions 0 to id - 1 can be read
 abbrev pub invariant-loop-id : goal.invariant-loop-id
-invariant-loop-id l = (l.id ≤ l.count) × (scan all (function_at l.s Modern12 l.start) l.id ≡ gives l.id)
-
-abbrev pub decreases-loop-id : goal.decreases-loop-id
-decreases-loop-id l = l.count - l.id
+invariant-loop-id l = scan all (function_at l.s Modern12 l.start) l.id ≡ gives l.id

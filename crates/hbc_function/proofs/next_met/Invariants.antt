@@ -1,4 +1,3 @@
-use Prim.Native.Nat.{◌-◌}
 use Rattle.hbc_function_header.specs.Meets.{meets}
 use Rattle.hbc_function.specs.Private.{Skipped}
 use Rattle.hbc_function.proofs.next_met.Given as goal
@@ -6,6 +5,3 @@ use Rattle.hbc_function.proofs.next_met.Given as goal
 -- none of functions `from` to id - 1 meets the span
 abbrev pub invariant-loop-id : goal.invariant-loop-id
 invariant-loop-id l = Skipped (meets l.s l.layout l.start l.low l.high) l.from l.count l.id
-
-abbrev pub decreases-loop-id : goal.decreases-loop-id
-decreases-loop-id l = l.count - l.id

@@ -1,6 +1,5 @@
 use Rattle.std.proofs.lemmas.Bool.{not_from_true}
 use borrow.Author.Rules.{rules}
-use Prim.Native.Nat.{◌-◌}
 use native.Mathlib.Omega.{arith}
 use borrow.Author.Tests.{not-false}
 use Rattle.hbc_function.proofs.Sums.{ran_none, ran_long, ran_more}

@@ -1,5 +1,6 @@
-use Rattle.std.proofs.Common.{ℕ, ◌+◌, ◌-◌, ◌*◌, ◌^◌, ◌<◌, ◌≡◌, add-zero, arith, rules}
-use native.Mathlib.Nat.{sub_self, sub-zero}
+use Rattle.std.proofs.Common.{◌+◌, ◌-◌, ◌*◌, ◌^◌, ◌<◌, arith, rules}
+use mathlib.Core.Path.{refl}
+use native.Mathlib.Nat.{sub_self}
 use Rattle.hbc_bits.specs.Bits.{le_at}
 use Rattle.hbc_bits.proofs.Laws.{Bytes}
 use Rattle.hbc_io.proofs.Plains.{le_turn, le_room}
@@ -17,8 +18,8 @@ overflow_mul-v c =
     let room : c.loop-k.v * 256 + 255 < 2 ^ 64 = rw c.loop-k.invariant.1 (le_room a.s.now (a.at + c.loop-k.k) (a.width - c.loop-k.k) bytes (omega arith)) in
     omega arith
 
-pub overflow_add-v : goal.overflow_add-v
-overflow_add-v c =
+pub overflow_add-v-in-loop-k : goal.overflow_add-v-in-loop-k
+overflow_add-v-in-loop-k c =
     let a = c.args in
     let bytes : Bytes a.s.now = λ i. (c.type_inv.s i).fits in
     let room : c.loop-k.v * 256 + 255 < 2 ^ 64 = rw c.loop-k.invariant.1 (le_room a.s.now (a.at + c.loop-k.k) (a.width - c.loop-k.k) bytes (omega arith)) in
@@ -28,9 +29,4 @@ pub loop-k-preserved : goal.loop-k-preserved
 loop-k-preserved c =
     let a = c.args in
     let l = c.loop-k in
-    (omega arith, le_turn a.s.now a.at a.width l.k l.v c.wide.result c.loop-k-test.true l.invariant.0 (omega arith) l.invariant.1 c.wide.ensures)
-
-pub returns : goal.returns
-returns c =
-    let k : c.loop-k.k ≡ 0 = omega arith in
-    simp (k, sub-zero, add-zero) at c.loop-k.invariant.1
+    (omega arith, le_turn a.s.now a.at a.width l.k l.v _ c.loop-k-test.true l.invariant.0 (omega arith) l.invariant.1 refl)

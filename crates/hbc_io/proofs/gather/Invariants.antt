@@ -6,6 +6,3 @@ use Rattle.hbc_io.proofs.gather.Given as goal
 -- v is the number of the bytes from k up, those below it still to come in
 abbrev pub invariant-loop-k : goal.invariant-loop-k
 invariant-loop-k l = (l.k ≤ l.width) × (l.v ≡ le_at l.s (l.at + l.k) (l.width - l.k))
-
-abbrev pub decreases-loop-k : goal.decreases-loop-k
-decreases-loop-k l = l.k

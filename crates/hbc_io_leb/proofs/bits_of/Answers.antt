@@ -1,21 +1,7 @@
 use native.Mathlib.Omega.{arith}
 use mathlib.Core.Path.{◌∙◌, sym}
-use Rattle.hbc_io_leb.proofs.Bits.{is_up, is_down, up_casts, up_is, down_fits, turned}
+use Rattle.hbc_io_leb.proofs.Bits.{is_up, is_down, up_is, turned}
 use Rattle.hbc_io_leb.proofs.bits_of.Goals as goal
-
-pub overflow_cast-result : goal.overflow_cast-result
-overflow_cast-result c = let u = is_up _ c.ranges.v c.if-v-ge0.true in up_casts _ u.n u.is u.small
-
-pub overflow_sub-result : goal.overflow_sub-result
-overflow_sub-result c = let d = is_down _ c.ranges.v c.if-v-ge0.false in down_fits _ d.n d.is d.small
-
-pub overflow_cast-result-else-v-ge0 : goal.overflow_cast-result-else-v-ge0
-overflow_cast-result-else-v-ge0 c = let d = is_down _ c.ranges.v c.if-v-ge0.false in up_casts _ d.n (turned _ d.n d.is d.small) d.small
-
-pub overflow_sub-result-else-v-ge0 : goal.overflow_sub-result-else-v-ge0
-overflow_sub-result-else-v-ge0 c =
-    let d = is_down _ c.ranges.v c.if-v-ge0.false in
-    omega (arith, d.small, up_is _ d.n (turned _ d.n d.is d.small) d.small)
 
 pub returns-then-v-ge0 : goal.returns-then-v-ge0
 returns-then-v-ge0 c = let u = is_up _ c.ranges.v c.if-v-ge0.true in up_is _ u.n u.is u.small ∙ sym u.bits

@@ -2,17 +2,12 @@ use borrow.Author.Tests.{le-leb}
 use native.Mathlib.Omega.{arith}
 use mir.Syntax.{w64}
 use mir.ValLaws.{to_z-of_z}
-use Rattle.hbc_io_leb.proofs.Slebs.{sign_le, sign_law}
+use Rattle.hbc_io_leb.proofs.Slebs.{sign_law}
 use borrow.Author.Rules.{rules}
 use Rattle.hbc_io_leb.proofs.extended.Goals as goal
 
 pub returns-then-count-ge10 : goal.returns-then-count-ge10
 returns-then-count-ge10 c = rw (to_z-of_z w64 c.signed64.result (search rules), c.signed64.ensures, le-leb _ _ c.if-count-ge10.true)
-
-pub overflow_mul-sign : goal.overflow_mul-sign
-overflow_mul-sign c =
-    let a = c.args in
-    omega (arith, sign_le a.count a.bits (omega arith) c.requires.1)
 
 pub returns : goal.returns
 returns c =

@@ -1,4 +1,4 @@
-use Prim.Native.Nat.{◌+◌, ◌-◌, ◌%◌, ◌^◌, ◌≤◌}
+use Prim.Native.Nat.{◌+◌, ◌%◌, ◌^◌}
 use mathlib.Core.Path.{◌≡◌}
 use lib.ListN.{take, drop}
 use Rattle.hbc_io_leb.specs.Leb.{going, groups}
@@ -6,7 +6,4 @@ use Rattle.hbc_io_leb.proofs.read_groups.Given as goal
 
 -- the k bytes looked at all say that another follows, and v is the low 64 bits of their groups
 abbrev pub invariant-loop-k : goal.invariant-loop-k
-invariant-loop-k l = (l.k ≤ l.most) × (going (drop l.at l.s) ≡ l.k + going (drop (l.at + l.k) l.s)) × (l.v ≡ groups (take l.k (drop l.at l.s)) % 2 ^ 64)
-
-abbrev pub decreases-loop-k : goal.decreases-loop-k
-decreases-loop-k l = l.most - l.k
+invariant-loop-k l = (going (drop l.at l.s) ≡ l.k + going (drop (l.at + l.k) l.s)) × (l.v ≡ groups (take l.k (drop l.at l.s)) % 2 ^ 64)

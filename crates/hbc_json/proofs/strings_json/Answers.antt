@@ -8,7 +8,7 @@ pub returns-then-rows-count : goal.returns-then-rows-count
 returns-then-rows-count c = too_few _ _ _ _ c.if-storage-gt-LIMIT.false c.if-rows-count.true c.refuse-then-rows-count.ensures
 
 pub put_array-requires : goal.put_array-requires
-put_array-requires c = (c.if-storage-gt-LIMIT.false, is_room c.args.storage.now c.args.rows.now c.args.count c.args.out.now c.if-storage-gt-LIMIT.false c.if-rows-count.false c.enough.ensures c.if-enough.true)
+put_array-requires c = is_room c.args.storage.now c.args.rows.now c.args.count c.args.out.now c.if-storage-gt-LIMIT.false c.if-rows-count.false c.enough.ensures c.if-enough.true
 
 pub returns-then-enough : goal.returns-then-enough
 returns-then-enough c = is_put c.args.storage.now c.args.rows.now c.args.count c.args.out.now c.if-storage-gt-LIMIT.false c.if-rows-count.false c.enough.ensures c.if-enough.true c.put_array.ensures.0 c.put_array.ensures.1

@@ -11,8 +11,5 @@ returns-then-s-gt-LIMIT c = of_many _ _ _ c.if-s-gt-LIMIT.true c.refuse.ensures
 pub returns-then-is_odd : goal.returns-then-is_odd
 returns-then-is_odd c = of_bytes _ _ _ c.if-s-gt-LIMIT.false (rw (odd_none c.args.wide c.args.s.now (c.is_odd.ensures.0 c.if-is_odd.true)) (has_length [] _ refl (omega arith)))
 
-pub measure-requires : goal.measure-requires
-measure-requires c = (c.if-s-gt-LIMIT.false, c.is_odd.ensures.1 c.if-is_odd.false)
-
 pub returns : goal.returns
 returns c = of_bytes _ _ _ c.if-s-gt-LIMIT.false c.measure.ensures

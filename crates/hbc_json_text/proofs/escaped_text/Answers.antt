@@ -8,12 +8,6 @@ returns-then-s-gt-LIMIT c = is_long _ _ _ c.if-s-gt-LIMIT.true c.refuse.ensures
 pub returns-then-is_odd : goal.returns-then-is_odd
 returns-then-is_odd c = odd_put c.args.wide c.args.s.now _ (c.is_odd.ensures.0 c.if-is_odd.true) c.if-s-gt-LIMIT.false
 
-pub enough-requires : goal.enough-requires
-enough-requires c = (c.if-s-gt-LIMIT.false, c.is_odd.ensures.1 c.if-is_odd.false)
-
-pub put_all-requires : goal.put_all-requires
-put_all-requires c = (c.if-s-gt-LIMIT.false, c.is_odd.ensures.1 c.if-is_odd.false, room_is c.args.wide c.args.s.now _ c.enough.ensures c.if-enough.true)
-
 pub returns-then-enough : goal.returns-then-enough
 returns-then-enough c = is_put _ _ _ c.if-s-gt-LIMIT.false (room_is c.args.wide c.args.s.now _ c.enough.ensures c.if-enough.true) c.put_all.ensures.0 c.put_all.ensures.1
 

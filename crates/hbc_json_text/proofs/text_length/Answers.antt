@@ -3,9 +3,3 @@ use Rattle.hbc_json_text.proofs.text_length.Goals as goal
 
 pub returns-then-s-eq0 : goal.returns-then-s-eq0
 returns-then-s-eq0 c = empty_length c.args.wide c.args.s.now _ c.if-s-eq0.true
-
-pub returns-then-wide : goal.returns-then-wide
-returns-then-wide c = rw c.if-wide.true c.utf16_length.ensures
-
-pub returns : goal.returns
-returns c = rw c.if-wide.false c.utf8_length.ensures

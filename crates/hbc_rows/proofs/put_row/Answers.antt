@@ -1,16 +1,10 @@
 use mathlib.Core.Path.{◌∙◌}
 use native.Mathlib.Omega.{arith}
-use Rattle.hbc_rows.proofs.RowsAt.{row_fits, put_none, put_in, put_out}
+use Rattle.hbc_rows.proofs.RowsAt.{put_none, put_in, put_out}
 use Rattle.hbc_rows.proofs.put_row.Goals as goal
 
 pub returns-then-w-eq0 : goal.returns-then-w-eq0
 returns-then-w-eq0 c = let a = c.args in put_none a.t.now a.k a.row.now c.if-w-eq0.true
-
-pub overflow_mul-k : goal.overflow_mul-k
-overflow_mul-k c = let f = row_fits _ _ _ c.if-k-t.true in omega arith
-
-pub store-requires : goal.store-requires
-store-requires c = row_fits _ _ _ c.if-k-t.true
 
 pub returns-then-k-t : goal.returns-then-k-t
 returns-then-k-t c = c.store.ensures ∙ put_in _ _ _ _ c.if-k-t.true

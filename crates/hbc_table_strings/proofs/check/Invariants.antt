@@ -1,10 +1,6 @@
-use Prim.Native.Nat.{◌≤◌, ◌-◌}
 use Rattle.hbc_table_strings.proofs.Laws.{Clear}
 use Rattle.hbc_table_strings.proofs.check.Given as goal
 
 -- before string i: none of the i strings before it lacks its pair, and so many pairs are needed for them
 abbrev pub invariant-loop-i : goal.invariant-loop-i
-invariant-loop-i l = (l.i ≤ l.n) × Clear l.mode l.small l.pairs l.i l.needed
-
-abbrev pub decreases-loop-i : goal.decreases-loop-i
-decreases-loop-i l = l.n - l.i
+invariant-loop-i l = Clear l.mode l.small l.pairs l.i l.needed

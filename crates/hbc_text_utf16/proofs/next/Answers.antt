@@ -1,5 +1,5 @@
 use native.Mathlib.Omega.{arith}
-use Rattle.hbc_text_utf16.proofs.Units.{surrogate_from, low_from, code_plain, code_low, code_last, code_split, code_pair}
+use Rattle.hbc_text_utf16.proofs.Units.{code_plain, code_low, code_last, code_split, code_pair}
 use Rattle.hbc_text_utf16.proofs.next.Goals as goal
 
 pub returns-then-u-gt56319 : goal.returns-then-u-gt56319
@@ -11,14 +11,6 @@ pub returns-then-s-at-lt4 : goal.returns-then-s-at-lt4
 returns-then-s-at-lt4 c =
     let first = c in
     code_last first.args.s.now first.args.at first.unit-u.result first.requires first.unit-u.ensures.0 c.is_surrogate.ensures c.if-is_surrogate.true (omega (arith, c.if-u-gt56319.false)) c.if-s-at-lt4.true
-
-pub overflow_sub-result : goal.overflow_sub-result
-overflow_sub-result c =
-    let first = c in
-    omega (arith, surrogate_from first.unit-u.result c.is_surrogate.ensures c.if-is_surrogate.true)
-
-pub overflow_sub-result-then-is_low : goal.overflow_sub-result-then-is_low
-overflow_sub-result-then-is_low c = omega (arith, low_from c.unit-v.result c.is_low.ensures c.if-is_low.true)
 
 pub returns-then-is_low : goal.returns-then-is_low
 returns-then-is_low c =

@@ -1,37 +1,16 @@
 use native.Mathlib.Omega.{arith}
-use Prim.Native.Nat.{◌-◌}
-use Rattle.hbc_text_utf16.proofs.Steps.{put_first, put_length, put_end, put_more, plain_room, plain_more, ascii_room, ascii_more, code_room, code_below, two_left, some_taken}
+use Rattle.hbc_text_utf16.proofs.Steps.{put_length, put_end, put_more, plain_room, plain_more, ascii_room, ascii_more, code_room, code_below, some_taken}
 use Rattle.hbc_text_utf16.proofs.put_text.Goals as goal
-
-pub loop-at-init : goal.loop-at-init
-loop-at-init c = put_first _ _ c.requires.0 c.requires.1
-
-pub unit-u-requires : goal.unit-u-requires
-unit-u-requires c = two_left _ _ c.loop-at.invariant.between c.loop-at-test.true
 
 pub bounds-d-n : goal.bounds-d-n
 bounds-d-n c =
     let turn = c in
     ascii_room _ _ _ _ turn.loop-at.invariant c.unit-u.result turn.loop-at-test.true c.unit-u.ensures.0 c.if-u-lt128.true
 
-pub overflow_add-n : goal.overflow_add-n
-overflow_add-n c =
-    let turn = c in
-    omega (arith, ascii_room _ _ _ _ turn.loop-at.invariant c.unit-u.result turn.loop-at-test.true c.unit-u.ensures.0 c.if-u-lt128.true, put_length _ _ _ _ turn.loop-at.invariant, turn.well_formed.1.0.0)
-
-pub overflow_add-at : goal.overflow_add-at
-overflow_add-at c = omega (arith, two_left _ _ c.loop-at.invariant.between c.loop-at-test.true)
-
-pub loop-at-smaller-then-u-lt128 : goal.loop-at-smaller-then-u-lt128
-loop-at-smaller-then-u-lt128 c = omega arith
-
 pub loop-at-preserved-then-u-lt128 : goal.loop-at-preserved-then-u-lt128
 loop-at-preserved-then-u-lt128 c =
     let turn = c in
     ascii_more _ _ _ _ turn.loop-at.invariant c.unit-u.result turn.loop-at-test.true c.unit-u.ensures.0 c.if-u-lt128.true
-
-pub next-c-requires : goal.next-c-requires
-next-c-requires c = two_left _ _ c.loop-at.invariant.between c.loop-at-test.true
 
 pub put-n-requires : goal.put-n-requires
 put-n-requires c =
@@ -72,21 +51,10 @@ overflow_add-n-else-is_surrogate c =
     let turn = c in
     omega (arith, plain_room _ _ _ _ turn.loop-at.invariant c.unit-u.result turn.loop-at-test.true c.unit-u.ensures.0 c.is_surrogate.ensures c.if-is_surrogate.false, c.put-n-else-is_surrogate.ensures.0, put_length _ _ _ _ turn.loop-at.invariant, turn.well_formed.1.0.0)
 
-pub overflow_add-at-else-is_surrogate : goal.overflow_add-at-else-is_surrogate
-overflow_add-at-else-is_surrogate c =
-    let turn = c in
-    omega (arith, two_left _ _ turn.loop-at.invariant.between turn.loop-at-test.true)
-
-pub loop-at-smaller : goal.loop-at-smaller
-loop-at-smaller c = omega arith
-
 pub loop-at-preserved : goal.loop-at-preserved
 loop-at-preserved c =
     let turn = c in
     plain_more _ _ _ _ turn.loop-at.invariant c.unit-u.result turn.loop-at-test.true c.unit-u.ensures.0 c.is_surrogate.ensures c.if-is_surrogate.false c.put-n-else-is_surrogate.ensures.0 c.put-n-else-is_surrogate.ensures.1
-
-pub shape_of-d : goal.shape_of-d
-shape_of-d c = put_length _ _ _ _ c.loop-at.invariant
 
 pub returns : goal.returns
 returns c = put_end _ _ _ _ c.loop-at.invariant c.loop-at-test.false

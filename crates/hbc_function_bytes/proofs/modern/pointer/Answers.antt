@@ -1,7 +1,7 @@
-use mathlib.Core.Path.{ap, ◌∙◌}
-use Rattle.hbc_bits.specs.Fields.{words_of}
+use Rattle.hbc_function_bytes.specs.Bytes.{values_in}
 use Rattle.hbc_function_bytes.proofs.Words.{modern_pointer}
 use Rattle.hbc_function_bytes.proofs.modern.pointer.Goals as goal
 
 pub returns : goal.returns
-returns c = c.header.ensures ∙ ap (words_of 4) (modern_pointer _)
+unfolding values_in
+returns c = modern_pointer _

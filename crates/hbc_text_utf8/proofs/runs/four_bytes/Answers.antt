@@ -3,4 +3,4 @@ use native.Mathlib.Omega.{arith}
 use Rattle.hbc_text_utf8.proofs.runs.four_bytes.Goals as goal
 
 pub returns : goal.returns
-returns c = le_four _ _ (omega arith) c.wide.ensures.0 c.wide-2.ensures.0 c.wide-3.ensures.0 c.wide-4.ensures.0
+returns c = le_four _ _ (omega arith) c.from.ensures c.from-2.ensures c.from-3.ensures c.from-4.ensures

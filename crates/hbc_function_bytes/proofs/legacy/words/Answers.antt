@@ -1,6 +1,0 @@
-use Rattle.hbc_function_bytes.specs.Bytes.{values_in}
-use Rattle.hbc_function_bytes.proofs.legacy.words.Goals as goal
-
-pub returns : goal.returns
-unfolding values_in
-returns c = c.header.ensures

@@ -1,7 +1,0 @@
-use Rattle.hbc_function_bytes.proofs.pointer_words.Goals as goal
-
-pub returns-in-Legacy16 : goal.returns-in-Legacy16
-returns-in-Legacy16 c = rw c.in-Legacy16.is c.pointer.ensures
-
-pub returns-in-Modern12 : goal.returns-in-Modern12
-returns-in-Modern12 c = rw c.in-Modern12.is c.pointer-in-Modern12.ensures
