@@ -1,5 +1,5 @@
 -- docs/FORMAT.md, section 5.4: an object's series, read from one of two lent buffers.
-use Rattle.std.specs.Prelude.{ℕ, List, Bool, Result, cond, length, eqb}
+use Rattle.std.specs.Prelude.{ℕ, List, Bool, Result, Ok, Err, cond, length, eqb}
 use Rattle.std.specs.Borrow.{Bor}
 use Rattle.hbc_io.specs.Answer.{Answer, gives, and_then}
 use Rattle.hbc_io.specs.Answers.{answered}
@@ -24,6 +24,11 @@ object_part keys values o = bytes_of (named o.«yes» keys values) o.start o.len
 -- the promise: that part of the named buffer itself, not of the other
 abbrev pub ObjectPart : Bor (List ℕ) → Bor (List ℕ) → Object → Bor (List ℕ) → Type 0
 ObjectPart keys values o = IsPart (named o.«yes» keys values) (span_of o.start o.len)
+
+-- the object of an answer; refused, that of no bytes, at the beginning of the buffer that was named
+abbrev pub object_in : Bool → Result Object Refusal → Object
+object_in b (Ok o) = o
+object_in b (Err r) = record { «yes» = b; start = 0; len = 0 }
 
 -- for count 0, its empty beginning
 abbrev pub start_of : ℕ → ℕ → ℕ

@@ -2,7 +2,7 @@
 #![tactic(auto)]
 
 ghost use Rattle.std.specs.Prelude.{◌≡◌};
-ghost use Rattle.hbc_buffer_object.specs.Object.{named, ObjectPart, start_of, ReadObject};
+ghost use Rattle.hbc_buffer_object.specs.Object.{named, ObjectPart, start_of, ReadObject, object_in};
 
 use hbc_buffer::read_series;
 use hbc_io::{Refusal, Span, part};
@@ -34,6 +34,20 @@ pub fn object_part<'k: 'r, 'v: 'r, 'r>(keys: &'k [u8], values: &'v [u8], o: Obje
         len: o.len,
     };
     part(choose(keys, values, o.yes), bytes)
+}
+
+// The object of an answer; refused, that of no bytes, at the beginning of the buffer that was asked for.
+pub fn object_in(yes: bool, answer: Result<Object, Refusal>) -> Object
+    ensures { result ≡ object_in yes answer }
+{
+    match answer {
+        Ok(o) => o,
+        Err(_) => Object {
+            yes,
+            start: 0,
+            len: 0,
+        },
+    }
 }
 
 fn start_of(offset: u32, count: u32) -> usize

@@ -17,8 +17,7 @@ pub fn code(r: Refusal) -> u64
 
 // A refusal at a cursor: where it leaves the cursor, and its number.
 pub fn refused(stopped: Stopped, at: &mut usize) -> u64
-    ensures number { result ≡ code_of stopped.refusal }
-    ensures cursor { at.new ≡ stopped.cursor.at }
+    ensures { (result ≡ code_of stopped.refusal) × (at.new ≡ stopped.cursor.at) }
 {
     *at = stopped.cursor.at;
     code(stopped.refusal)

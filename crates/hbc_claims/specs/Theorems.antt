@@ -64,7 +64,7 @@ use Rattle.hbc_json.specs.StringsJson.{StringsJson}
 use Rattle.hbc_buffer_literal.specs.Literal.{literal_at}
 use Rattle.hbc_buffer.specs.Series.{Run, after, head_at, ReadSeries}
 use Rattle.hbc_buffer_object.specs.declared.Object.{Object}
-use Rattle.hbc_buffer_object.specs.Object.{named as choice, object_part, ReadObject}
+use Rattle.hbc_buffer_object.specs.Object.{named as choice, object_part, object_in, ReadObject}
 use Rattle.hbc_parsing_handlers.specs.declared.Reason.{Reason}
 use Rattle.hbc_parsing_handlers.specs.declared.Table.{Table as Triples}
 use Rattle.hbc_parsing_handlers.specs.Why.{why, shown, WhyNoHandlers}
@@ -118,7 +118,7 @@ use Rattle.hbc_claims_json.specs.Rows.{OfRows}
 use Rattle.hbc_claims_json.specs.Put.{PutsJson}
 use Rattle.hbc_claims_json.specs.Cases as arrays
 use Rattle.hbc_claims_json.specs.Unique as u_json
-use Rattle.hbc_claims_buffer.specs.Refused.{object_in, NoObject}
+use Rattle.hbc_claims_buffer.specs.Refused.{NoObject}
 use Rattle.hbc_claims_buffer.specs.Unique as u_buffer
 use Rattle.hbc_claims_parsing.specs.HandlerRows.{OfRecord}
 use Rattle.hbc_claims_parsing.specs.Why.{Explains, Lists}

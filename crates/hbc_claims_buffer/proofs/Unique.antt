@@ -21,4 +21,5 @@ unique = record {
   read_series = λ k a r q s u e f. both (alone one_answer e f);
   read_object = λ k a r q s u e f. both (alone one_answer e f);
   object_part = λ k a r q s u. one_part;
+  object_in = λ k a r q s u. same;
 }

@@ -6,7 +6,7 @@ use Rattle.hbc_io.specs.Outcome.{refused}
 use Rattle.hbc_buffer_literal.specs.Literal.{literal_at}
 use Rattle.hbc_buffer.specs.Series.{ReadSeries}
 use Rattle.hbc_buffer_object.specs.declared.Object.{Object}
-use Rattle.hbc_buffer_object.specs.Object.{object_part, ReadObject}
+use Rattle.hbc_buffer_object.specs.Object.{object_part, object_in, ReadObject}
 
 -- a refused literal leaves the cursor
 abbrev pub LiteralLeft : ℕ → List ℕ → Cursor → Refusal → Cursor → Type 0
@@ -15,11 +15,6 @@ LiteralLeft tag s c k n = refused k n ≡ literal_at tag s c → n ≡ c
 -- a refused series leaves both tables as they were
 abbrev pub SeriesLeft : List ℕ → ℕ → ℕ → List ℕ → List ℕ → Refusal → List ℕ → List ℕ → Type 0
 SeriesLeft s offset count ks ps r ks' ps' = ReadSeries s offset count ks ps (Err r) ks' ps' → (ks' ≡ ks) × (ps' ≡ ps)
-
--- the object of an answer; refused, that of no bytes, at the beginning of the buffer that was named
-abbrev pub object_in : Bool → Result Object Refusal → Object
-object_in b (Ok o) = o
-object_in b (Err r) = record { «yes» = b; start = 0; len = 0 }
 
 -- what is refused gives no object, whatever the tables that it would leave
 abbrev pub NoObject : List ℕ → List ℕ → Bool → ℕ → ℕ → List ℕ → List ℕ → Type 0

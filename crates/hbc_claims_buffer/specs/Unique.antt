@@ -5,6 +5,7 @@ use Rattle.hbc_buffer_literal.proofs.read_payload.Reads as of_read_payload
 use Rattle.hbc_buffer_literal.proofs.read_literal.Reads as of_read_literal
 use Rattle.hbc_buffer.proofs.read_series.Reads as of_read_series
 use Rattle.hbc_buffer_object.proofs.object_part.Reads as of_object_part
+use Rattle.hbc_buffer_object.proofs.object_in.Reads as of_object_in
 use Rattle.hbc_buffer_object.proofs.read_object.Reads as of_read_object
 use Rattle.hbc_claims_law.specs.Law.{One, OnePart, Both2}
 
@@ -17,3 +18,4 @@ pub record Unique : Type 0 where
   pub read_series : Both2 of_read_series.Learnt (λ s. s.1.1.1.0.now) (λ s. s.1.1.1.1.0.now)
   pub read_object : Both2 of_read_object.Learnt (λ s. s.1.1.1.1.1.0.now) (λ s. s.1.1.1.1.1.1.0.now)
   pub object_part : OnePart of_object_part.Learnt
+  pub object_in : One of_object_in.Learnt

@@ -12,6 +12,7 @@ table_parts p = (p.0, ap (λ (x : Table). x.rows) p.1, ap (λ (x : Table). x.tot
 
 pub unique : Unique
 unique = record {
+  try_from = λ k a r q s u. same;
   header_size = λ k a r q s u. same;
   large_size = λ k a r q s u. same;
   legacy_bits = λ k a r q s u. same;

@@ -1,4 +1,5 @@
 -- docs/FORMAT.md, section 1.6: each public call's contract, as the checker has it, leaves one answer, and one value for every lent word.
+use Rattle.hbc_function_record.proofs.LayoutTryFromU32.try_from.Reads as of_try_from
 use Rattle.hbc_function_record.proofs.header_size.Reads as of_header_size
 use Rattle.hbc_function_record.proofs.large_size.Reads as of_large_size
 use Rattle.hbc_function_record.proofs.bit_layout.legacy_bits.Reads as of_legacy_bits
@@ -29,6 +30,7 @@ use Rattle.hbc_claims_law.specs.Law.{One, Words, Both, Both3}
 
 -- the calls by name
 pub record Unique : Type 0 where
+  pub try_from : One of_try_from.Learnt
   pub header_size : One of_header_size.Learnt
   pub large_size : One of_large_size.Learnt
   pub legacy_bits : One of_legacy_bits.Learnt

@@ -11,6 +11,7 @@ unique = record {
   remaining = λ k a r q s u. same;
   refuse = λ k a r q s u. same;
   stop = λ k a r q s u. same;
+  from = λ k a r q s u. same;
   read_u8 = λ k a r q s u e f. one_read r q (same e f);
   read_u16 = λ k a r q s u e f. one_read r q (same e f);
   read_u32 = λ k a r q s u e f. one_read r q (same e f);

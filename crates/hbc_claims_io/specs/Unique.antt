@@ -12,6 +12,7 @@ use Rattle.hbc_io.proofs.read_i8.Reads as of_read_i8
 use Rattle.hbc_io.proofs.read_i32.Reads as of_read_i32
 use Rattle.hbc_io.proofs.read_f64.Reads as of_read_f64
 use Rattle.hbc_io.proofs.stop.Reads as of_stop
+use Rattle.hbc_io.proofs.RefusalFromStopped.from.Reads as of_from
 use Rattle.hbc_io.proofs.seek.Reads as of_seek
 use Rattle.hbc_io.proofs.align.Reads as of_align
 use Rattle.hbc_io.proofs.read_bytes.Reads as of_read_bytes
@@ -46,6 +47,7 @@ pub record Unique : Type 0 where
   pub read_i32 : One of_read_i32.Learnt
   pub read_f64 : One of_read_f64.Learnt
   pub stop : One of_stop.Learnt
+  pub from : One of_from.Learnt
   pub seek : One of_seek.Learnt
   pub align : One of_align.Learnt
   pub read_bytes : One of_read_bytes.Learnt

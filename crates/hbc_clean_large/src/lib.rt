@@ -14,8 +14,8 @@ ghost use Rattle.hbc_function_record.specs.Record.{large_of};
 ghost use Rattle.hbc_clean_large.specs.Large.{breaks_large, check_large};
 ghost use Rattle.hbc_clean_large.specs.Private.{spot_at, is_large, Here, Readable, slots, Tidy, Early, Nearer, Filled, Least, Looked, Swept, SweptOn};
 
-use hbc_function_header::{Ground, Reading, check_function, function_ground};
-use hbc_function_record::{Layout, header_size, large_size};
+use hbc_function_header::{Reading, check_function};
+use hbc_function_record::{Layout, header_link, header_size, large_size};
 use hbc_io::{LIMIT, Reason, refuse};
 use hbc_lowest::Lowest;
 use hbc_rows::word_of;
@@ -23,16 +23,14 @@ use hbc_rows::word_of;
 // How many slots a window has: 256 KiB of stack.
 const SLOTS: usize = 65536;
 
-// Where a function's large header is, if it has one.
+// Where a function's large header is, if it has one: what its own header says, which is in the file. Not by way of function_ground, whose answer the loops
+// here would take apart in memory.
+#[tactic(auto, using(crate::proofs::Grounds::spot_link, hbc_function_header::proofs::Headers::size_times))]
 fn spot_of(s: &[u8], layout: Layout, start: usize, id: u32) -> Option<usize>
     requires { (start ≤ length s.now) × (length s.now ≤ limit) × Here s.now layout start id }
     ensures { result ≡ spot_at s.now layout start id }
 {
-    match function_ground(s, layout, start, id) {
-        Ok(Ground::Large(_, place)) => Some(place),
-        Ok(Ground::Inline(_)) => None,
-        Err(_) => None,
-    }
+    header_link(s, layout, start + (id as usize) * header_size(layout))
 }
 
 // The first refusal among functions 0 to count - 1.

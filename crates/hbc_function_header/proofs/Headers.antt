@@ -129,15 +129,14 @@ module _ (s : List ℕ) (start : ℕ) where
   opened_at a h k = sym (rw (le-ltb limit (length s) h, le-ltb (length s) start k))
 
 module _ (s : List ℕ) (layout : Layout) (start i : ℕ) where
-  pub head_in : {at : ℕ} → gives at ≡ headed s layout start i (gives (header_at layout start i)) → (at ≡ header_at layout start i) × (at + size_of layout ≤ length s)
-  head_in {at} e =
-      let a = reached _ _ _ _ not_given (sym e) in let b = a.0 in let p : at ≡ header_at layout start i = cc in (p, rw p b)
+  pub head_in : {v : Unit {0}} → gives v ≡ headed s layout start i (gives tt) → header_at layout start i + size_of layout ≤ length s
+  head_in e = (reached _ _ _ _ not_given (sym e)).0
 
-  pub head_out : {A : Type 0} {r : Refusal} (a : Answer A) → refuses r ≡ headed s layout start i (gives (header_at layout start i)) → refuses r ≡ headed s layout start i a
+  pub head_out : {A : Type 0} {r : Refusal} (a : Answer A) → ◌≡◌ {A = Answer (Unit {0})} (refuses r) (headed s layout start i (gives tt)) → refuses r ≡ headed s layout start i a
   unfolding below
   head_out {A} {r} a e = by (ltb (length s) (header_at layout start i + size_of layout)) e
     where
-      by : (p : Bool) → ◌≡◌ {A = Answer ℕ} (refuses r) (cond p (refused_at 3 i) (gives (header_at layout start i))) → refuses r ≡ cond p (refused_at 3 i) a
+      by : (p : Bool) → ◌≡◌ {A = Answer (Unit {0})} (refuses r) (cond p (refused_at 3 i) (gives tt)) → refuses r ≡ cond p (refused_at 3 i) a
       by true e = let z : r ≡ refusal_at 3 i = refused_is e in ap refuses z
       by false e = absurd (not_given e)
 

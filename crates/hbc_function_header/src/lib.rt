@@ -56,17 +56,16 @@ fn open(file: &[u8], start: usize) -> Reading
     Ok(())
 }
 
-// The place of a header that is in the file.
+// Whether a function's header is in the file. The place is made out again behind it: an answer that holds it is taken apart in memory.
 #[tactic(auto, unfolding(hbc_io::specs::Lends::below), using(crate::proofs::Headers::size_small))]
-fn head(file: &[u8], layout: Layout, start: usize, id: u32) -> Result<usize, Refusal>
+fn head(file: &[u8], layout: Layout, start: usize, id: u32) -> Reading
     requires { start ≤ limit }
-    ensures { answered result ≡ headed file.now layout start id (gives (header_at layout start id)) }
+    ensures { answered result ≡ headed file.now layout start id (gives tt) }
 {
-    let at = header_at(layout, start, id);
-    if file.len() < at + header_size(layout) {
+    if file.len() < header_at(layout, start, id) + header_size(layout) {
         return Err(refuse(Reason::Cut as u32, id));
     }
-    Ok(at)
+    Ok(())
 }
 
 // Function `id` of the table at `start`.
@@ -105,8 +104,8 @@ pub fn function_ground(file: &[u8], layout: Layout, start: usize, id: u32) -> Gr
     ensures { answered result ≡ function_ground file.now layout start id }
 {
     open(file, start)?;
-    let at = head(file, layout, start, id)?;
-    Ok(find::ground_here(file, layout, at))
+    head(file, layout, start, id)?;
+    Ok(find::ground_here(file, layout, header_at(layout, start, id)))
 }
 
 // Does it meet the bytes from low up to high? Made part of its callers: a refresh asks it in a loop, which as a call of its own it costs its registers.
@@ -129,8 +128,8 @@ pub fn function_meets(
     if file.len() < high {
         return Err(refuse(Reason::BadSpan as u32, 0));
     }
-    let at = head(file, layout, start, id)?;
-    let ground = find::ground_here(file, layout, at);
+    head(file, layout, start, id)?;
+    let ground = find::ground_here(file, layout, header_at(layout, start, id));
     let own = header_size(layout);
     let large = large_size(layout);
     Ok(meets::ground_meets(ground, own, large, low, high))

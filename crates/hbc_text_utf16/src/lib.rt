@@ -171,7 +171,9 @@ fn enough(s: &[u8], room: usize) -> bool
     counted(s) <= room
 }
 
-// The text of an even number of bytes, for which there is room. ASCII and what is no surrogate have their own arms for speed.
+// The text of an even number of bytes, for which there is room. ASCII and what is no surrogate have their own arms for speed. A call of its own: as a part of
+// an export its loop reads where to write from the stack in each turn.
+#[inline(never)]
 fn put_text(s: &[u8], d: &mut [u8]) -> usize
     requires { (length s.now % 2 ≡ 0) × (length (text_of s.now) ≤ length d.old) }
     ensures { (result ≡ length (text_of s.now)) × (d.new ≡ over (text_of s.now) d.old) }

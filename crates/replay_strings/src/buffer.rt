@@ -42,18 +42,11 @@ pub(crate) fn read_series(Call { record, s, n }: Call) -> bool {
 // Whether an object's answer is the one listed, and its part the bytes recorded. A refused one is listed by its refusal, in the buffer that was asked for,
 // with no bytes.
 fn is(record: &[u8], keys: bool, answer: Result<Object, Refusal>) -> bool {
-    let (number, place, o) = match answer {
-        Ok(o) => (0, 0, o),
-        Err(r) => (
-            r.number as u64,
-            r.place as usize,
-            Object {
-                yes: keys,
-                start: 0,
-                len: 0,
-            },
-        ),
+    let (number, place) = match answer {
+        Ok(_) => (0, 0),
+        Err(r) => (r.number as u64, r.place as usize),
     };
+    let o = hbc_buffer_object::object_in(keys, answer);
     let part = hbc_buffer_object::object_part(field_of(record, 1), field_of(record, 5), o);
     answers(record, number, place, o.start, o.len, o.yes as usize) & bytes_are(record, 6, part)
 }

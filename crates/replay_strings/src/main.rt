@@ -43,11 +43,14 @@ fn turn(out: &mut Out, record: &[u8], t: Tally) -> Tally {
     counted(t, judge(Call { record, s, n }))
 }
 
-// As many turns as there are bytes: no fewer than there are records. Behind the last one a turn does nothing.
+// As many turns as there are bytes are enough: no fewer than there are records.
 fn replay(out: &mut Out, s: &[u8]) {
     let mut t = Tally { all: 0, bad: 0 };
     let mut at: usize = 0;
     for _ in s {
+        if s.len() <= at {
+            return;
+        }
         t = turn(out, field_at(s, at), t);
         at = past(s, at);
     }

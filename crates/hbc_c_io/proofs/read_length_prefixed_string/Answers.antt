@@ -11,4 +11,4 @@ pub returns-in-Ok : goal.returns-in-Ok
 returns-in-Ok c = marked_got (span_got (string.span_got _ _ (found says c.read_length_prefixed_string.ensures c.in-Ok.is))) (ap (valued (λ (p : Prefixed). p.exact)) (found says c.read_length_prefixed_string.ensures c.in-Ok.is))
 
 pub returns-in-Err : goal.returns-in-Err
-returns-in-Err c = rw c.refused.ensures.cursor (marked_refused (span_refused (string.span_refused _ _ (found says c.read_length_prefixed_string.ensures c.in-Err.is)) c.refused.ensures.number) (ap (valued (λ (p : Prefixed). p.exact)) (found says c.read_length_prefixed_string.ensures c.in-Err.is)))
+returns-in-Err c = rw c.refused.ensures.1 (marked_refused (span_refused (string.span_refused _ _ (found says c.read_length_prefixed_string.ensures c.in-Err.is)) c.refused.ensures.0) (ap (valued (λ (p : Prefixed). p.exact)) (found says c.read_length_prefixed_string.ensures c.in-Err.is)))
