@@ -20,7 +20,7 @@ use Rattle.hbc_function_record.specs.Record.{size_of, large_of, inline_of, link_
 use Rattle.hbc_io.specs.declared.Refusal.{Refusal}
 use Rattle.hbc_function_header.specs.declared.Ground.{Ground}
 use Rattle.hbc_function_header.specs.declared.Ground.TheVariants as ground
-use Rattle.hbc_function_header.specs.Header.{header_at, ground_by, ground_of, ground_at, where_of, where_at, found, record_at, function_at, read_function, function_ground}
+use Rattle.hbc_function_header.specs.Header.{header_at, ground_by, ground_here, ground_of, ground_at, where_of, where_at, found, record_at, function_at, read_function, function_ground}
 use Rattle.hbc_function_header.specs.Meets.{overlap}
 use Rattle.hbc_lowest.proofs.Laws.{some_is, some_none, truth_clash}
 use Rattle.hbc_clean_large.specs.Large.{table_end, early, shares, breaks_large}
@@ -136,6 +136,25 @@ module _ (s : List ℕ) (layout : Layout) (start count : ℕ) where
 
 -- ---- what the reader finds of a function that can be read
 
+module _ (s : List ℕ) (layout : Layout) (start i : ℕ) (h : start ≤ length s) (l : length s ≤ limit) (here : Here s layout start i) where
+  abbrev here_ground : Ground
+  here_ground = ground_here s layout (header_at layout start i)
+
+  ground_is : gives here_ground ≡ function_ground s layout start i
+  unfolding function_ground below
+  ground_is = rw (le-ltb limit (length s) l, le-ltb (length s) start h, le-ltb (length s) (header_at layout start i + size_of layout) here.own)
+
+  spot_is : spot_of (Some here_ground) ≡ spot_at s layout start i
+  unfolding spot_at ground_at ground_of below
+  spot_is = rw (le-ltb (length s) (header_at layout start i + size_of layout) here.own)
+
+  pub spot_got : (g : Ground) → gives g ≡ function_ground s layout start i → spot_of (Some g) ≡ spot_at s layout start i
+  spot_got g e = let q : gives g ≡ gives here_ground = e ∙ sym ground_is in let z : g ≡ here_ground = cc in ap (λ (x : Ground). spot_of (Some x)) z ∙ spot_is
+
+  pub spot_refused : {A : Type 0} {r : Refusal} → refuses r ≡ function_ground s layout start i → A
+  spot_refused e = absurd (not_given (e ∙ sym ground_is))
+
+-- and what its header's link is
 linked : (at : ℕ) (l : Option ℕ) → l ≡ spot_of (Some (ground_by at l))
 linked at None = refl
 linked at (Some place) = refl

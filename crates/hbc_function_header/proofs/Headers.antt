@@ -129,16 +129,29 @@ module _ (s : List ℕ) (start : ℕ) where
   opened_at a h k = sym (rw (le-ltb limit (length s) h, le-ltb (length s) start k))
 
 module _ (s : List ℕ) (layout : Layout) (start i : ℕ) where
-  pub head_in : {v : Unit {0}} → gives v ≡ headed s layout start i (gives tt) → header_at layout start i + size_of layout ≤ length s
-  head_in e = (reached _ _ _ _ not_given (sym e)).0
-
-  pub head_out : {A : Type 0} {r : Refusal} (a : Answer A) → ◌≡◌ {A = Answer (Unit {0})} (refuses r) (headed s layout start i (gives tt)) → refuses r ≡ headed s layout start i a
+  -- refused, whatever a header in the file would give
+  refused_out : {A B : Type 0} {r : Refusal} (v : B) (a : Answer A) → ◌≡◌ {A = Answer B} (refuses r) (headed s layout start i (gives v)) → refuses r ≡ headed s layout start i a
   unfolding below
-  head_out {A} {r} a e = by (ltb (length s) (header_at layout start i + size_of layout)) e
+  refused_out {A} {B} {r} v a e = by (ltb (length s) (header_at layout start i + size_of layout)) e
     where
-      by : (p : Bool) → ◌≡◌ {A = Answer (Unit {0})} (refuses r) (cond p (refused_at 3 i) (gives tt)) → refuses r ≡ cond p (refused_at 3 i) a
+      by : (p : Bool) → ◌≡◌ {A = Answer B} (refuses r) (cond p (refused_at 3 i) (gives v)) → refuses r ≡ cond p (refused_at 3 i) a
       by true e = let z : r ≡ refusal_at 3 i = refused_is e in ap refuses z
       by false e = absurd (not_given e)
+
+  -- of an answer that holds the header's place
+  pub head_in : {at : ℕ} → gives at ≡ headed s layout start i (gives (header_at layout start i)) → (at ≡ header_at layout start i) × (at + size_of layout ≤ length s)
+  head_in {at} e =
+      let a = reached _ _ _ _ not_given (sym e) in let b = a.0 in let p : at ≡ header_at layout start i = cc in (p, rw p b)
+
+  pub head_out : {A : Type 0} {r : Refusal} (a : Answer A) → refuses r ≡ headed s layout start i (gives (header_at layout start i)) → refuses r ≡ headed s layout start i a
+  head_out a e = refused_out (header_at layout start i) a e
+
+  -- of one that holds nothing
+  pub head_there : {v : Unit {0}} → gives v ≡ headed s layout start i (gives tt) → header_at layout start i + size_of layout ≤ length s
+  head_there e = (reached _ _ _ _ not_given (sym e)).0
+
+  pub head_gone : {A : Type 0} {r : Refusal} (a : Answer A) → ◌≡◌ {A = Answer (Unit {0})} (refuses r) (headed s layout start i (gives tt)) → refuses r ≡ headed s layout start i a
+  head_gone a e = refused_out tt a e
 
   pub headed_at : {A : Type 0} (a : Answer A) → header_at layout start i + size_of layout ≤ length s → a ≡ headed s layout start i a
   unfolding below
@@ -147,7 +160,7 @@ module _ (s : List ℕ) (layout : Layout) (start i : ℕ) where
 -- what the calls cite of the tests of file and start, and of the header
 pub ruleset opening = (open_in, open_out, opened_at)
 
-pub ruleset heading = (opening, head_in, head_out, headed_at)
+pub ruleset heading = (opening, head_in, head_out, head_there, head_gone, headed_at)
 
 -- ---- the calls
 
