@@ -136,25 +136,7 @@ module _ (s : List ℕ) (layout : Layout) (start count : ℕ) where
 
 -- ---- what the reader finds of a function that can be read
 
-module _ (s : List ℕ) (layout : Layout) (start i : ℕ) (h : start ≤ length s) (l : length s ≤ limit) (here : Here s layout start i) where
-  abbrev here_ground : Ground
-  here_ground = ground_here s layout (header_at layout start i)
-
-  ground_is : gives here_ground ≡ function_ground s layout start i
-  unfolding function_ground below
-  ground_is = rw (le-ltb limit (length s) l, le-ltb (length s) start h, le-ltb (length s) (header_at layout start i + size_of layout) here.own)
-
-  spot_is : spot_of (Some here_ground) ≡ spot_at s layout start i
-  unfolding spot_at ground_at ground_of below
-  spot_is = rw (le-ltb (length s) (header_at layout start i + size_of layout) here.own)
-
-  pub spot_got : (g : Ground) → gives g ≡ function_ground s layout start i → spot_of (Some g) ≡ spot_at s layout start i
-  spot_got g e = let q : gives g ≡ gives here_ground = e ∙ sym ground_is in let z : g ≡ here_ground = cc in ap (λ (x : Ground). spot_of (Some x)) z ∙ spot_is
-
-  pub spot_refused : {A : Type 0} {r : Refusal} → refuses r ≡ function_ground s layout start i → A
-  spot_refused e = absurd (not_given (e ∙ sym ground_is))
-
--- and what its header's link is
+-- where its header's link leads
 linked : (at : ℕ) (l : Option ℕ) → l ≡ spot_of (Some (ground_by at l))
 linked at None = refl
 linked at (Some place) = refl
@@ -165,6 +147,24 @@ unfolding spot_at ground_at ground_of below
 spot_link s layout start i here =
     rw (word_there (size_of layout) s (header_at layout start i) here.own, le-ltb (length s) (header_at layout start i + size_of layout) here.own)
     (linked (header_at layout start i) _)
+
+-- and the answer of the call
+module _ (s : List ℕ) (layout : Layout) (start i : ℕ) (h : start ≤ length s) (l : length s ≤ limit) (here : Here s layout start i) where
+  abbrev here_ground : Ground
+  here_ground = ground_here s layout (header_at layout start i)
+
+  ground_is : gives here_ground ≡ function_ground s layout start i
+  unfolding function_ground below
+  ground_is = rw (le-ltb limit (length s) l, le-ltb (length s) start h, le-ltb (length s) (header_at layout start i + size_of layout) here.own)
+
+  spot_is : spot_of (Some here_ground) ≡ spot_at s layout start i
+  spot_is = let at = header_at layout start i in let e = spot_link s layout start i here in sym (linked at _) ∙ (rw (word_there (size_of layout) s at here.own) at e)
+
+  pub spot_got : (g : Ground) → gives g ≡ function_ground s layout start i → spot_of (Some g) ≡ spot_at s layout start i
+  spot_got g e = let q : gives g ≡ gives here_ground = e ∙ sym ground_is in let z : g ≡ here_ground = cc in ap (λ (x : Ground). spot_of (Some x)) z ∙ spot_is
+
+  pub spot_refused : {A : Type 0} {r : Refusal} → refuses r ≡ function_ground s layout start i → A
+  spot_refused e = absurd (not_given (e ∙ sym ground_is))
 
 -- ---- one function after another
 
